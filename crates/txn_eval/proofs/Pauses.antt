@@ -33,6 +33,7 @@ use Rattle.txn_lang.specs.Rules.{Expression, of_node, of_expr, of_operand, of_st
 use Rattle.txn_lang.proofs.Walk.{deep}
 use Rattle.txn_eval.specs.declared.kept.Kept.{Kept}
 use Rattle.txn_eval.specs.declared.pause.Pause.{Pause}
+use Rattle.txn_eval.specs.declared.trail.Turns.{Turns}
 use Rattle.txn_eval.specs.declared.trail.Around.{Around}
 use Rattle.txn_eval.specs.declared.trail.Around.TheVariants as around
 use Rattle.txn_eval.specs.declared.trail.Frame.{Frame}
@@ -367,7 +368,7 @@ block_is t ss outside pause at none =
 
 -- what is left of a loop in one of whose turns a run stands
 round_is : (t : PartialState) (x : Bytes) (e : Expr) (ss : List Stmt) (over : Over) (place outside : ℕ) (pause : Pause)
-    → node_left (StmtNode-F.For x e ss) (around.Turn over place) outside t pause
+    → node_left (StmtNode-F.For x e ss) (around.Turn (record { over = over; next = place })) outside t pause
     ≡ and_then (block_left ss outside t pause) (λ after. turns x (map (stmt_run (kept t)) ss) (drop place (texts_over over after)) after)
 round_is t x e ss over place outside pause =
     behind_both (stmts_left ss t pause) (λ after. pure (take outside after))
@@ -640,11 +641,11 @@ module _ (s : PartialState) (x : Bytes) (ss : List Stmt) where
       -- a turn that needs a value
       pub turn_needs : (taken : Over) → ((ns : Names) → left_behind place over ns ≡ left_behind place taken ns)
           → (e stop' : Stop) (a : Address) (outside here next : ℕ) (k new : Pause) (expr : Expr) → stop' ≡ stop.Need a
-          → Enters e a new (inside (around.Turn taken next) outside here k) → next ≡ place + 1
+          → Enters e a new (inside (around.Turn (record { over = taken; next = next })) outside here k) → next ≡ place + 1
           → Goes s (Err stop') k.names k.run (λ t. block_left ss outside t k) (λ t. turn x (does t) text names p)
           → GoesIn s (Err e) (node_left (StmtNode-F.For x expr ss)) whole new
       turn_needs taken behind e stop' a outside here next k new expr needs enters count stops =
-          block_needs s e stop' a (around.Turn taken next) ss outside here k new (node_left (StmtNode-F.For x expr ss))
+          block_needs s e stop' a (around.Turn (record { over = taken; next = next })) ss outside here k new (node_left (StmtNode-F.For x expr ss))
           (λ t. and_then (block_left ss outside t k) (λ after. from t (place + 1) after)) whole needs enters
           (λ t more.
           (λ i. and_then (block_left ss outside t k) (λ after. turns x (does t) (behind after i) after))
@@ -656,28 +657,28 @@ module _ (s : PartialState) (x : Bytes) (ss : List Stmt) where
     module _ (expr : Expr) (place outside : ℕ) (old : Pause) where
       pub round_done : (k new : Pause) (r : Result (Unit {0}) Stop) → ((t : PartialState) → Extends s t → block_left ss outside t old ≡ gives k.names k.run)
           → GoesIn s r (node_left (StmtNode-F.For x expr ss)) (λ t. from t place k.names k.run) new
-          → GoesIn s r (node_left (StmtNode-F.For x expr ss)) (λ t. node_left (StmtNode-F.For x expr ss) (around.Turn over place) outside t old) new
+          → GoesIn s r (node_left (StmtNode-F.For x expr ss)) (λ t. node_left (StmtNode-F.For x expr ss) (around.Turn (record { over = over; next = place })) outside t old) new
       round_done k new r did goes =
           in_by s r (node_left (StmtNode-F.For x expr ss)) (λ t. from t place k.names k.run)
-          (λ t. node_left (StmtNode-F.For x expr ss) (around.Turn over place) outside t old) new
+          (λ t. node_left (StmtNode-F.For x expr ss) (around.Turn (record { over = over; next = place })) outside t old) new
           (λ t more. round_is t x expr ss over place outside old ∙ ap (λ u. and_then u (λ after. from t place after)) (did t more)) goes
 
       round_stops : (e : Stop) (k : Pause) → Goes s (Err e) k.names k.run (λ t. block_left ss outside t k) (λ t. block_left ss outside t old)
-          → Goes s (Err e) k.names k.run (λ t. node_left (StmtNode-F.For x expr ss) (around.Turn over place) outside t k)
-          (λ t. node_left (StmtNode-F.For x expr ss) (around.Turn over place) outside t old)
+          → Goes s (Err e) k.names k.run (λ t. node_left (StmtNode-F.For x expr ss) (around.Turn (record { over = over; next = place })) outside t k)
+          (λ t. node_left (StmtNode-F.For x expr ss) (around.Turn (record { over = over; next = place })) outside t old)
       round_stops e k stops =
-          goes_left s (Err e) k.names k.run _ (λ t. node_left (StmtNode-F.For x expr ss) (around.Turn over place) outside t k) _
+          goes_left s (Err e) k.names k.run _ (λ t. node_left (StmtNode-F.For x expr ss) (around.Turn (record { over = over; next = place })) outside t k) _
           (λ t more. sym (round_is t x expr ss over place outside k))
           (goes_by s (Err e) k.names k.run _ (λ t. and_then (block_left ss outside t old) (λ after. from t place after)) _
           (λ t more. round_is t x expr ss over place outside old)
           (stop_then s e k.names k.names k.run (λ t. block_left ss outside t k) (λ t. block_left ss outside t old) (λ t after. from t place after) stops))
 
       pub round_needs : (e stop' : Stop) (a : Address) (here : ℕ) (k new : Pause) → stop' ≡ stop.Need a
-          → Enters e a new (inside (around.Turn over place) outside here k)
+          → Enters e a new (inside (around.Turn (record { over = over; next = place })) outside here k)
           → Goes s (Err stop') k.names k.run (λ t. block_left ss outside t k) (λ t. block_left ss outside t old)
-          → GoesIn s (Err e) (node_left (StmtNode-F.For x expr ss)) (λ t. node_left (StmtNode-F.For x expr ss) (around.Turn over place) outside t old) new
+          → GoesIn s (Err e) (node_left (StmtNode-F.For x expr ss)) (λ t. node_left (StmtNode-F.For x expr ss) (around.Turn (record { over = over; next = place })) outside t old) new
       round_needs e stop' a here k new needs enters stops =
-          block_needs s e stop' a (around.Turn over place) ss outside here k new (node_left (StmtNode-F.For x expr ss)) _ _ needs enters
+          block_needs s e stop' a (around.Turn (record { over = over; next = place })) ss outside here k new (node_left (StmtNode-F.For x expr ss)) _ _ needs enters
           (λ t more. refl) (round_stops stop' k stops)
 
 -- ---- statements in order
@@ -758,15 +759,15 @@ module _ (s : PartialState) (stmt : Stmt) (old : Pause) (frame : Frame) where
       (goes node same))
 
   -- a turn
-  pub within_turn : (x : Bytes) (e : Expr) (ss slice : List Stmt) (over : Over) (place : ℕ) (r : Result (Unit {0}) Stop) (new : Pause)
-      → out-StmtNode (out-Stmt stmt).node ≡ StmtNode-F.For x e ss → slice ≡ ss → frame.around ≡ around.Turn over place
+  pub within_turn : (x : Bytes) (e : Expr) (ss slice : List Stmt) (left : Turns) (r : Result (Unit {0}) Stop) (new : Pause)
+      → out-StmtNode (out-Stmt stmt).node ≡ StmtNode-F.For x e ss → slice ≡ ss → frame.around ≡ around.Turn left
       → ((e : Expr) → GoesIn s r (node_left (StmtNode-F.For x e slice))
-      (λ t. node_left (StmtNode-F.For x e slice) (around.Turn over place) frame.outside t (record old { at = frame.at })) new)
+      (λ t. node_left (StmtNode-F.For x e slice) (around.Turn left) frame.outside t (record old { at = frame.at })) new)
       → GoesOn s r (stmt_left stmt) (record old { trail = frame ∷ old.trail }) new
-  within_turn x e ss slice over place r new form is at goes =
+  within_turn x e ss slice left r new form is at goes =
       within_goes (StmtNode-F.For x e slice) r new (form ∙ ap (λ zs. StmtNode-F.For x e zs) (sym is))
       (in_by s r (node_left (StmtNode-F.For x e slice))
-      (λ t. node_left (StmtNode-F.For x e slice) (around.Turn over place) frame.outside t (record old { at = frame.at }))
+      (λ t. node_left (StmtNode-F.For x e slice) (around.Turn left) frame.outside t (record old { at = frame.at }))
       (λ t. node_left (StmtNode-F.For x e slice) frame.around frame.outside t (record old { at = frame.at })) new
       (λ t more. ap (λ y. node_left (StmtNode-F.For x e slice) y frame.outside t (record old { at = frame.at })) at)
       (goes e))

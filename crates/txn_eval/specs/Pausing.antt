@@ -16,6 +16,7 @@ use Rattle.txn_lang.specs.Observed.{Extends}
 use Rattle.txn_eval.specs.declared.kept.Kept.{Kept}
 use Rattle.txn_eval.specs.declared.trail.Over.{Over}
 use Rattle.txn_eval.specs.declared.trail.Over.TheVariants as over
+use Rattle.txn_eval.specs.declared.trail.Turns.{Turns}
 use Rattle.txn_eval.specs.declared.trail.Around.{Around}
 use Rattle.txn_eval.specs.declared.trail.Around.TheVariants as around
 use Rattle.txn_eval.specs.declared.trail.Frame.{Frame}
@@ -27,6 +28,10 @@ use Rattle.txn_eval.specs.Running.{values_of}
 abbrev pub texts_over : Over → Names → List Bytes
 texts_over (over.Texts ts) names = ts
 texts_over (over.Name x) names = texts_in (named names x)
+
+-- those for whose turns it has not come yet
+abbrev pub texts_left : Turns → Names → List Bytes
+texts_left left names = drop left.next (texts_over left.over names)
 
 module _ (m : Memory Kept) where
   -- the first of some statements does this, and those behind it what they do
@@ -47,10 +52,10 @@ module _ (m : Memory Kept) where
     after ← inner ts names
     pure (take outside after)
   around_rest around.Else outside inner _ names = stop_by stop.Spent
-  around_rest (around.Turn over place) outside inner (StmtNode-F.For x e ss) names = do
+  around_rest (around.Turn left) outside inner (StmtNode-F.For x e ss) names = do
     after ← inner ss names
-    turns x (map (stmt_run m) ss) (drop place (texts_over over (take outside after))) (take outside after)
-  around_rest (around.Turn over place) outside inner _ names = stop_by stop.Spent
+    turns x (map (stmt_run m) ss) (texts_left left (take outside after)) (take outside after)
+  around_rest (around.Turn left) outside inner _ names = stop_by stop.Spent
 
   -- what is left of a statement, in whose blocks a run has paused: all of it where that is in none
   unfoldable pub stmt_rest : List Frame → Stmt → Statement Kept

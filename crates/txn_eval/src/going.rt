@@ -1,21 +1,14 @@
 //! Going on from a pause, down to the statement at which a run has paused and up from there.
 
-ghost use Rattle.std.specs.Prelude.{◌≡◌, ◌∷◌, false, [], drop, map, length, slice_get, IfOk, OnOk};
-ghost use Rattle.rdt_types.specs.declared.outcome.Item.{Item};
-ghost use Rattle.txn_trees.specs.declared.expression.Expr.{Expr};
-ghost use Rattle.txn_trees.specs.declared.statement.Stmt.{out-Stmt};
-ghost use Rattle.txn_trees.specs.declared.statement.StmtNode.{out-StmtNode};
-ghost use Rattle.txn_trees.specs.declared.statement.StmtNode.TheOpen.{StmtNode-F};
+ghost use Rattle.std.specs.Prelude.{◌≡◌, ◌∷◌, false, [], map, length, OnOk};
 ghost use Rattle.txn_lang.specs.Rules as rules;
-ghost use Rattle.txn_lang.specs.States.{PartialState};
-ghost use Rattle.txn_eval.specs.Pausing.{texts_over};
 ghost use Rattle.txn_eval.specs.Running.{values_of};
 ghost use Rattle.txn_eval.specs.code.Answers.{Answers};
 ghost use Rattle.txn_eval.specs.code.Buffering.{kept};
 ghost use Rattle.txn_eval.specs.code.Forms.{charged, expr_here};
-ghost use Rattle.txn_eval.specs.code.Pauses.{holds_block, taken_back, Goes, GoesIn, GoesKnown, GoesPlainly, GivesHere, GivesOverHere};
+ghost use Rattle.txn_eval.specs.code.Pauses.{holds_block, taken_back, Goes, GoesKnown, GoesPlainly, GoesThrough, TakesTurns, GivesHere, GivesOverHere};
 ghost use Rattle.txn_eval.specs.code.Pauses.{Enters, OnGoing, inside};
-ghost use Rattle.txn_eval.specs.code.Pauses.{stmts_left, stmt_left, block_left, node_left};
+ghost use Rattle.txn_eval.specs.code.Pauses.{stmts_left, stmt_left, block_left, turn_left, turns_left};
 
 use crate::charging::charge;
 use crate::environment::Environment;
@@ -26,7 +19,7 @@ use crate::kept::Kept;
 use crate::naming::text_over;
 use crate::pause::Pause;
 use crate::statement::simple;
-use crate::trail::{Around, Frame, Over};
+use crate::trail::{Around, Frame, Over, Turns};
 use plain_data::Text;
 use rdt_types::{Address, Item};
 use txn_lang::{Progress, Stop};
@@ -137,19 +130,16 @@ fn block(known: &Known<'_>, pause: &mut Pause, outside: usize, stmts: &[Stmt]) -
 
 /// A branch of an `if`, from a statement of it on.
 #[cycle(step)]
-fn branch(
-    known: &Known<'_>,
-    pause: &mut Pause,
-    around: Around,
-    outside: usize,
-    at: usize,
-    stmts: &[Stmt],
-) -> Result<(), Stop>
-    ensures goes { (node : StmtNode-F StmtNode Stmt) → ((t : PartialState) (k : Pause) → block_left stmts.now outside t k ≡ node_left node around outside t k)
-        → GoesIn (values_of known.now.snaps.now) result (node_left node) (λ t. block_left stmts.now outside t (record pause.old { at = at })) pause.new }
+fn branch(known: &Known<'_>, pause: &mut Pause, frame: Frame, stmts: &[Stmt]) -> Result<(), Stop>
+    ensures goes { GoesThrough known.now result frame stmts.now pause.old pause.new }
     ensures trail { OnOk result (pause.new.trail ≡ []) }
     ensures at { OnGoing result (pause.new.at ≡ pause.old.at) }
 {
+    let Frame {
+        around,
+        outside,
+        at,
+    } = frame;
     let here = pause.at;
     pause.at = at;
     match block(known, pause, outside, stmts) {
@@ -162,6 +152,16 @@ fn branch(
             stop => Err(stop),
         },
     }
+}
+
+/// Where a run stands in a turn of a loop.
+struct InTurn {
+    /// The turns behind this one.
+    left: Turns,
+    /// How many names were bound outside of it.
+    outside: usize,
+    /// The statement in it that comes next.
+    at: usize,
 }
 
 /// A turn of a loop, with its text. It forgets the names that it bound.
@@ -185,34 +185,30 @@ fn turn(
     block(known, pause, outside, stmts)
 }
 
-/// The turns of a loop from a place on.
+/// The turns of a loop that are left.
 #[cycle(step)]
 fn turns(
     known: &Known<'_>,
     pause: &mut Pause,
     name: &Text,
-    over: Over,
-    place: usize,
+    left: Turns,
     stmts: &[Stmt],
 ) -> Result<(), Stop>
     requires { pause.old.trail ≡ [] }
-    ensures goes { (e : Expr) → GoesIn (values_of known.now.snaps.now) result (node_left (StmtNode-F.For name.now e stmts.now))
-        (λ t. rules.turns name.now (map (rules.stmt_run (kept t)) stmts.now) (drop place (texts_over over pause.old.names)) pause.old.names pause.old.run)
-        pause.new }
+    ensures goes { TakesTurns known.now result name.now stmts.now (turns_left name.now stmts.now left pause.old) pause.new }
     ensures trail { OnOk result (pause.new.trail ≡ []) }
     ensures at { OnGoing result (pause.new.at ≡ pause.old.at) }
 {
     let here = pause.at;
     let outside = pause.names.len();
-    let mut over = over;
-    let mut next = place;
+    let Turns { mut over, mut next } = left;
     while let Some(text) = text_over(&mut over, &pause.names, next, known.alloc)? {
         next += 1;
         match turn(known, pause, name, text, stmts) {
             Ok(()) => pause.at = here,
             Err(stop) => match stop {
                 Stop::Need(address) => {
-                    let around = Around::Turn(over, next);
+                    let around = Around::Turn(Turns { over, next });
                     return Err(enter(pause, around, outside, here, address));
                 }
                 stop => return Err(stop),
@@ -222,35 +218,29 @@ fn turns(
     Ok(())
 }
 
-/// A loop from a statement of a turn on, behind which the turns go on from a place.
+/// A loop from a statement of a turn on, behind which the turns that are left go on.
 #[cycle(step)]
 fn round(
     known: &Known<'_>,
     pause: &mut Pause,
     name: &Text,
-    over: Over,
-    place: usize,
-    outside: usize,
-    at: usize,
+    standing: InTurn,
     stmts: &[Stmt],
 ) -> Result<(), Stop>
-    ensures goes { (e : Expr) → GoesIn (values_of known.now.snaps.now) result (node_left (StmtNode-F.For name.now e stmts.now))
-        (λ t. node_left (StmtNode-F.For name.now e stmts.now) (Around.Turn over place) outside t (record pause.old { at = at })) pause.new }
+    ensures goes { TakesTurns known.now result name.now stmts.now (turn_left name.now stmts.now standing pause.old) pause.new }
     ensures trail { OnOk result (pause.new.trail ≡ []) }
     ensures at { OnGoing result (pause.new.at ≡ pause.old.at) }
 {
+    let InTurn { left, outside, at } = standing;
     let here = pause.at;
     pause.at = at;
     match block(known, pause, outside, stmts) {
         Ok(()) => {
             pause.at = here;
-            turns(known, pause, name, over, place, stmts)
+            turns(known, pause, name, left, stmts)
         }
         Err(stop) => match stop {
-            Stop::Need(address) => {
-                let around = Around::Turn(over, place);
-                Err(enter(pause, around, outside, here, address))
-            }
+            Stop::Need(address) => { Err(enter(pause, Around::Turn(left), outside, here, address)) }
             stop => Err(stop),
         },
     }
@@ -271,29 +261,33 @@ fn within(known: &Known<'_>, pause: &mut Pause, stmt: &Stmt, frame: Frame) -> Re
     match around {
         Around::Then => match &stmt.node {
             StmtNode::If(_, yes, _) => {
-                branch(known, pause, Around::Then, outside, at, yes.as_slice())
+                let frame = Frame {
+                    around: Around::Then,
+                    outside,
+                    at,
+                };
+                branch(known, pause, frame, yes.as_slice())
             }
             _ => Err(Stop::NoMemory),
         },
         Around::Else => match &stmt.node {
             StmtNode::If(_, _, no) => match no {
-                Some(no) => { branch(known, pause, Around::Else, outside, at, no.as_slice()) }
+                Some(no) => {
+                    let frame = Frame {
+                        around: Around::Else,
+                        outside,
+                        at,
+                    };
+                    branch(known, pause, frame, no.as_slice())
+                }
                 None => Err(Stop::NoMemory),
             },
             _ => Err(Stop::NoMemory),
         },
-        Around::Turn(over, place) => match &stmt.node {
+        Around::Turn(left) => match &stmt.node {
             StmtNode::For(name, _, stmts) => {
-                round(
-                    known,
-                    pause,
-                    name,
-                    over,
-                    place,
-                    outside,
-                    at,
-                    stmts.as_slice(),
-                )
+                let standing = InTurn { left, outside, at };
+                round(known, pause, name, standing, stmts.as_slice())
             }
             _ => Err(Stop::NoMemory),
         },
@@ -318,10 +312,14 @@ fn fresh(known: &Known<'_>, pause: &mut Pause, stmt: &Stmt) -> Result<(), Stop>
             };
             let item = head(&here, &mut pause.run, expr)?;
             if bool_in(&item) {
-                branch(known, pause, Around::Then, outside, 0, yes.as_slice())
+                let frame = Frame::first(Around::Then, outside);
+                branch(known, pause, frame, yes.as_slice())
             } else {
                 match no {
-                    Some(no) => { branch(known, pause, Around::Else, outside, 0, no.as_slice()) }
+                    Some(no) => {
+                        let frame = Frame::first(Around::Else, outside);
+                        branch(known, pause, frame, no.as_slice())
+                    }
                     None => Ok(()),
                 }
             }
@@ -333,7 +331,8 @@ fn fresh(known: &Known<'_>, pause: &mut Pause, stmt: &Stmt) -> Result<(), Stop>
                 names: &pause.names,
             };
             let over = over_of(&here, &mut pause.run, expr)?;
-            turns(known, pause, name, over, 0, stmts.as_slice())
+            let left = Turns { over, next: 0 };
+            turns(known, pause, name, left, stmts.as_slice())
         }
         _ => plain(known, &mut pause.names, &mut pause.run, stmt),
     }

@@ -2,9 +2,8 @@
 
 ghost use Rattle.std.specs.Prelude.{◌≡◌, false, OnErr};
 ghost use Rattle.txn_lang.specs.Rules as rules;
-ghost use Rattle.txn_trees.specs.declared.statement.StmtNode.TheOpen.{StmtNode-F};
 ghost use Rattle.txn_eval.specs.code.Answers.{Answers, Keeps, Leaves};
-ghost use Rattle.txn_eval.specs.code.Forms.{on, stmt_on, emit_here, fail_here, write_here, written_here};
+ghost use Rattle.txn_eval.specs.code.Forms.{stmt_on, emit_here, fail_here, write_here, write_value_here, written_here};
 ghost use Rattle.txn_eval.specs.code.Pauses.{holds_block};
 
 use crate::charging::{carry, charge};
@@ -78,19 +77,26 @@ fn write_given(
     }
 }
 
+/// Where a statement writes.
+#[derive(Clone, Copy)]
+struct Target<'a> {
+    kind: Kind,
+    /// What gives the key.
+    key: &'a Expr,
+}
+
 /// Writes at the key that an expression gives.
 fn write_value(
     here: &Here<'_>,
     run: &mut Progress<Kept>,
-    kind: Kind,
-    key: &Expr,
+    target: &Target<'_>,
     word: WriteWord,
     exprs: &[Expr],
 ) -> Result<(), Stop>
-    ensures { Keeps result here.now run.new (rules.of_step (on here.now.snaps.now) (StmtNode-F.Write kind key.now word exprs.now) here.now.names.now run.old) }
+    ensures { Keeps result here.now run.new (write_value_here here.now target.now.kind target.now.key.now word exprs.now run.old) }
 {
-    let key = key_of(here, run, key)?;
-    let address = address_of(here.alloc, kind, key);
+    let key = key_of(here, run, target.key)?;
+    let address = address_of(here.alloc, target.kind, key);
     write_given(here, run, address, word, exprs)
 }
 
@@ -136,7 +142,8 @@ pub(crate) fn simple(
         StmtNode::Emit(expr) => emit_value(&here, run, expr),
         StmtNode::Fail(expr) => fail_value(&here, run, expr),
         StmtNode::Write(kind, key, word, arguments) => {
-            write_value(&here, run, *kind, key, *word, arguments.as_slice())
+            let target = Target { kind: *kind, key };
+            write_value(&here, run, &target, *word, arguments.as_slice())
         }
         StmtNode::If(..) | StmtNode::For(..) => unreachable!(),
     }

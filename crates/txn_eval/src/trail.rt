@@ -1,6 +1,7 @@
 //! How far inside a body a run has paused.
 
 ghost use Rattle.std.specs.Prelude.{◌≡◌, [], ◌∷◌, MatchOption, OnOk, OnErr};
+ghost use Rattle.txn_eval.specs.code.Pauses.{first_frame};
 
 use plain_data::{Sequence, Text};
 use rdt_types::TextList;
@@ -16,6 +17,14 @@ pub(crate) enum Over {
     Name(Text),
 }
 
+/// The turns of a loop that are left.
+#[derive(Drop)]
+pub(crate) struct Turns {
+    pub over: Over,
+    /// The place of the text that comes next.
+    pub next: usize,
+}
+
 /// Around which block a statement stands.
 #[derive(Drop)]
 pub(crate) enum Around {
@@ -23,8 +32,8 @@ pub(crate) enum Around {
     Then,
     /// What it does where it doesn't.
     Else,
-    /// A turn of a `for`, with what that goes over and the place of the text that comes next.
-    Turn(Over, usize),
+    /// A turn of a `for`, with those behind it.
+    Turn(Turns),
 }
 
 /// A statement in whose block a run has paused.
@@ -35,6 +44,19 @@ pub(crate) struct Frame {
     pub outside: usize,
     /// The statement in the block that comes next, or in which the run has paused.
     pub at: usize,
+}
+
+impl Frame {
+    /// Before the first statement of a block.
+    pub fn first(around: Around, outside: usize) -> Frame
+        ensures { result ≡ first_frame around outside }
+    {
+        Frame {
+            around,
+            outside,
+            at: 0,
+        }
+    }
 }
 
 /// The statements in whose blocks a run has paused, which contracts see from the outermost on.

@@ -4,6 +4,7 @@
 use Rattle.std.specs.Prelude.{◌≡◌, ℕ, ◌+◌, List, [], map, sum, length, pos, refl}
 use Rattle.plain_data.specs.Texts.{Bytes}
 use Rattle.rdt_types.specs.declared.address.Address.{Address}
+use Rattle.rdt_types.specs.declared.address.Kind.{Kind}
 use Rattle.rdt_types.specs.declared.outcome.Item.{Item}
 use Rattle.rdt_types.specs.declared.outcome.Item.TheVariants as item
 use Rattle.txn_trees.specs.declared.word.Relation.{Relation}
@@ -113,6 +114,9 @@ module _ (here : Here) where
 
   abbrev pub fail_here : Expr → Stepping Kept Names
   fail_here e = of_step (on here.snaps.now) (StmtNode-F.Fail e) here.names.now
+
+  abbrev pub write_value_here : Kind → Expr → WriteWord → List Expr → Stepping Kept Names
+  write_value_here kind key word es = of_step (on here.snaps.now) (StmtNode-F.Write kind key word es) here.names.now
 
   -- of no expression there is nothing to do
   exprs_here-example : exprs_here [] ≡ pure []

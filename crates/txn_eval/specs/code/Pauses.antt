@@ -1,6 +1,6 @@
 -- How the code comes from pause to pause. The lemmas of proofs/Pauses tie it to `IsPauseOf` of specs/Pausing, of which alone the
 -- clauses of `go_on` speak.
-use Rattle.std.specs.Prelude.{◌≡◌, ◌≢◌, ℕ, ◌+◌, Bool, true, false, List, [], ◌∷◌, take, drop, length, Result, Ok, Err}
+use Rattle.std.specs.Prelude.{◌≡◌, ◌≢◌, ℕ, ◌+◌, Bool, true, false, List, [], ◌∷◌, map, take, drop, length, Result, Ok, Err}
 use Rattle.plain_data.specs.Texts.{Bytes}
 use Rattle.rdt_types.specs.declared.address.Address.{Address}
 use Rattle.rdt_types.specs.declared.outcome.Item.{Item}
@@ -15,18 +15,22 @@ use Rattle.txn_lang.specs.States.{PartialState}
 use Rattle.txn_lang.specs.Observed.{Extends}
 use Rattle.txn_lang.specs.Items.{Names, texts_in}
 use Rattle.txn_lang.specs.Steps.{Step, stopped, gives, and_then, pure}
-use Rattle.txn_lang.specs.Rules.{expr_run, stmt_run}
+use Rattle.txn_lang.specs.Rules.{expr_run, stmt_run, turns}
 use Rattle.txn_lang.specs.Execution.{begun}
 use Rattle.txn_eval.specs.declared.kept.Kept.{Kept}
 use Rattle.txn_eval.specs.declared.here.Known.{Known}
 use Rattle.txn_eval.specs.declared.here.Here.{Here}
 use Rattle.txn_eval.specs.declared.trail.Over.{Over}
+use Rattle.txn_eval.specs.declared.trail.Turns.{Turns}
 use Rattle.txn_eval.specs.declared.trail.Around.{Around}
+use Rattle.txn_eval.specs.declared.trail.Around.TheVariants as around
+use Rattle.txn_eval.specs.declared.trail.Frame.{Frame}
+use Rattle.txn_eval.specs.declared.going.InTurn.{InTurn}
 use Rattle.txn_eval.specs.declared.pause.Pause.{Pause}
 use Rattle.txn_eval.specs.code.Buffering.{kept, nothing_kept}
 use Rattle.txn_eval.specs.code.Forms.{charged}
 use Rattle.txn_eval.specs.Running.{values_of}
-use Rattle.txn_eval.specs.Pausing.{texts_over, around_rest, first_rest, stmt_rest, stmts_rest}
+use Rattle.txn_eval.specs.Pausing.{texts_over, texts_left, around_rest, first_rest, stmt_rest, stmts_rest}
 
 -- before the first statement nothing was done
 abbrev pub first_pause : Pause
@@ -66,12 +70,12 @@ abbrev pub charged_expr : Expr → Names → Progress Kept → PartialState → 
 charged_expr e names p t = charged (expr_run (kept t) e names) p
 
 -- what a statement does, on each state
-abbrev pub whole : Stmt → Names × Progress Kept → Steps
-whole stmt from t = stmt_run (kept t) stmt from.0 from.1
+abbrev pub stmt_does : Stmt → Names × Progress Kept → Steps
+stmt_does stmt from t = stmt_run (kept t) stmt from.0 from.1
 
 -- the same on what is known: of a statement without blocks, and of a run that stands at a pause
 abbrev pub GoesPlainly : Known → Result (Unit {0}) Stop → Stmt → Names × Progress Kept → Names × Progress Kept → Type 0
-GoesPlainly known result stmt old new = Goes (values_of known.snaps.now) result new.0 new.1 (whole stmt new) (whole stmt old)
+GoesPlainly known result stmt old new = Goes (values_of known.snaps.now) result new.0 new.1 (stmt_does stmt new) (stmt_does stmt old)
 
 abbrev pub GoesKnown : Known → Result (Unit {0}) Stop → (PartialState → Pause → Step Kept Names) → Pause → Pause → Type 0
 GoesKnown known result left old new = GoesOn (values_of known.snaps.now) result left old new
@@ -109,6 +113,28 @@ GoesIn s (Ok _) left whole new = (t : PartialState) → Extends s t → whole t 
 GoesIn s (Err (stop.Need a)) left whole new = ((q : Progress Kept) × (whole s ≡ stopped (stop.Need a) q)) × ((x : Around) × (outside : ℕ) × (k : Pause)
     × (new ≡ inside x outside new.at k) × ((t : PartialState) → Extends s t → whole t ≡ left x outside t k))
 GoesIn s (Err e) left whole new = e ≢ stop.NoMemory → whole s ≡ stopped e new.run
+
+-- before the first statement of a block
+abbrev pub first_frame : Around → ℕ → Frame
+first_frame x outside = record { around = x; outside = outside; at = 0 }
+
+-- the same of a branch, from a statement of it on, whatever form it is of
+abbrev pub GoesThrough : Known → Result (Unit {0}) Stop → Frame → List Stmt → Pause → Pause → Type 0
+GoesThrough known result frame ss old new = (node : StmtNode-F StmtNode Stmt)
+    → ((t : PartialState) (k : Pause) → block_left ss frame.outside t k ≡ node_left node frame.around frame.outside t k)
+    → GoesIn (values_of known.snaps.now) result (node_left node) (λ t. block_left ss frame.outside t (record old { at = frame.at })) new
+
+-- and of turns of a loop, whatever it goes over
+abbrev pub TakesTurns : Known → Result (Unit {0}) Stop → Bytes → List Stmt → (Expr → Steps) → Pause → Type 0
+TakesTurns known result x ss whole new = (e : Expr) → GoesIn (values_of known.snaps.now) result (node_left (StmtNode-F.For x e ss)) (whole e) new
+
+-- what is left of a loop before a turn, and within one
+abbrev pub turns_left : Bytes → List Stmt → Turns → Pause → Expr → Steps
+turns_left x ss left k e t = turns x (map (stmt_run (kept t)) ss) (texts_left left k.names) k.names k.run
+
+abbrev pub turn_left : Bytes → List Stmt → InTurn → Pause → Expr → Steps
+turn_left x ss standing k e t =
+    node_left (StmtNode-F.For x e ss) (around.Turn standing.left) standing.outside t (record k { at = standing.at })
 
 -- a fact where a run goes through, or may go on
 abbrev pub OnGoing : Result (Unit {0}) Stop → Type 0 → Type 0

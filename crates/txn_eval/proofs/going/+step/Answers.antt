@@ -13,7 +13,7 @@ use Rattle.txn_eval.specs.declared.trail.Over.{Over}
 use Rattle.txn_eval.specs.code.Buffering.{kept}
 use Rattle.txn_eval.specs.declared.trail.Around.TheVariants as around
 use Rattle.txn_eval.specs.Pausing.{texts_over}
-use Rattle.txn_eval.specs.code.Pauses.{Enters, inside, block_left, node_left, left_behind}
+use Rattle.txn_eval.specs.code.Pauses.{Enters, inside, block_left, node_left, left_behind, GoesThrough}
 use Rattle.txn_eval.proofs.Pauses.{extends_itself, stop_in, stop_going, within_branch, within_turn}
 use Rattle.txn_eval.proofs.Pauses.{block_needs, if_form, for_form, if_stops, for_stops, then_goes, else_goes, none_goes, for_goes, plain_goes, on_ok, on_going}
 use Rattle.txn_eval.proofs.Pauses.{turn_goes, turn_names, turns_end, turn_done, turn_stops, turn_needs, round_done, round_needs, next_goes}
@@ -36,7 +36,7 @@ fewer place over taken names after text there same behind =
 
 pub branch-returns-in-Need-clause-goes : goal.branch-returns-in-Need-clause-goes
 branch-returns-in-Need-clause-goes b c = λ node same.
-    block_needs (values_of c.args.known.now.snaps.now) c.enter.result c.in-Err.stop c.in-Need.address c.args.around c.args.stmts.now c.args.outside _
+    block_needs (values_of c.args.known.now.snaps.now) c.enter.result c.in-Err.stop c.in-Need.address c.args.frame.around c.args.stmts.now c.args.frame.outside _
     c.block.new.pause c.enter.new.pause (node_left node) _ _ c.in-Need.is c.enter.ensures (λ t more. same t c.block.new.pause) c.in-Err.ensures.goes
 
 pub fresh-returns-in_err-item-in-If-clause-goes : goal.fresh-returns-in_err-item-in-If-clause-goes
@@ -50,14 +50,20 @@ fresh-returns-then-bool_in-clause-goes b c =
     then_goes (values_of c.args.known.now.snaps.now) c.args.stmt.now c.args.pause.now c.requires c.in-If.expr c.in-If.yes c.in-If.no
     (if_form c.args.stmt.now c.in-If.expr c.in-If.yes c.in-If.no c.in-If.is) c.in_ok-item-in-If.item c.head.new.run c.in_ok-item-in-If.ensures
     c.as_slice.result.now c.len-outside.result c.len-outside.ensures c.branch-known.result c.branch-known.new.pause
-    (sym c.bool_in.ensures ∙ c.if-bool_in.true) c.as_slice.ensures c.branch-known.ensures.goes
+    (sym c.bool_in.ensures ∙ c.if-bool_in.true) c.as_slice.ensures
+    (subst (λ f. GoesThrough c.args.known.now c.branch-known.result f c.as_slice.result.now (record c.args.pause.now { run = c.head.new.run })
+    c.branch-known.new.pause)
+    c.first-frame.ensures c.branch-known.ensures.goes)
 
 pub fresh-returns-in-Some-clause-goes : goal.fresh-returns-in-Some-clause-goes
 fresh-returns-in-Some-clause-goes b c =
     else_goes (values_of c.args.known.now.snaps.now) c.args.stmt.now c.args.pause.now c.requires c.in-If.expr c.in-If.yes c.in-If.no
     (if_form c.args.stmt.now c.in-If.expr c.in-If.yes c.in-If.no c.in-If.is) c.in_ok-item-in-If.item c.head.new.run c.in_ok-item-in-If.ensures
     c.as_slice-in-Some.result.now c.len-outside.result c.len-outside.ensures c.branch-known-in-Some.result c.branch-known-in-Some.new.pause
-    c.in-Some.no (sym c.bool_in.ensures ∙ c.if-bool_in.false) c.in-Some.is c.as_slice-in-Some.ensures c.branch-known-in-Some.ensures.goes
+    c.in-Some.no (sym c.bool_in.ensures ∙ c.if-bool_in.false) c.in-Some.is c.as_slice-in-Some.ensures
+    (subst (λ f. GoesThrough c.args.known.now c.branch-known-in-Some.result f c.as_slice-in-Some.result.now
+    (record c.args.pause.now { run = c.head.new.run }) c.branch-known-in-Some.new.pause)
+    c.first-frame-in-Some.ensures c.branch-known-in-Some.ensures.goes)
 
 pub fresh-returns-in-If-clause-goes : goal.fresh-returns-in-If-clause-goes
 fresh-returns-in-If-clause-goes b c =
@@ -94,13 +100,13 @@ fresh-returns-in-For-clause-goes b c =
 
 pub round-returns-in-Ok-clause-goes : goal.round-returns-in-Ok-clause-goes
 round-returns-in-Ok-clause-goes b c = λ e.
-    round_done (values_of c.args.known.now.snaps.now) c.args.name.now c.args.stmts.now c.args.over e c.args.place c.args.outside (record c.args.pause.now { at = c.args.at })
+    round_done (values_of c.args.known.now.snaps.now) c.args.name.now c.args.stmts.now c.args.standing.left.over e c.args.standing.left.next c.args.standing.outside (record c.args.pause.now { at = c.args.standing.at })
     c.block.new.pause c.turns.new.pause c.turns.result c.in-Ok.ensures.goes (c.turns.ensures.goes e)
 
 pub round-returns-in-Need-clause-goes : goal.round-returns-in-Need-clause-goes
 round-returns-in-Need-clause-goes b c = λ e.
-    round_needs (values_of c.args.known.now.snaps.now) c.args.name.now c.args.stmts.now c.args.over e c.args.place c.args.outside
-    (record c.args.pause.now { at = c.args.at }) c.enter.result c.in-Err.stop c.in-Need.address c.args.pause.now.at c.block.new.pause c.enter.new.pause
+    round_needs (values_of c.args.known.now.snaps.now) c.args.name.now c.args.stmts.now c.args.standing.left.over e c.args.standing.left.next c.args.standing.outside
+    (record c.args.pause.now { at = c.args.standing.at }) c.enter.result c.in-Err.stop c.in-Need.address c.args.pause.now.at c.block.new.pause c.enter.new.pause
     c.in-Need.is c.enter.ensures c.in-Err.ensures.goes
 
 pub turn-returns-clause-goes : goal.turn-returns-clause-goes
@@ -149,7 +155,7 @@ turns-returns-in-Need-clause-goes b c = λ e.
     taken (λ ns. sym (c.in_ok-text.ensures.behind ns))
     c.enter.result c.in-Err.stop c.in-Need.address (length names) c.args.pause.now.at (c.loop-over.next + 1) c.turn.new.pause c.enter.new.pause e c.in-Need.is
     (subst (λ n. Enters c.enter.result c.in-Need.address c.enter.new.pause
-    (inside (around.Turn taken (c.loop-over.next + 1)) n c.args.pause.now.at c.turn.new.pause)) c.loop-over.invariant.outside c.enter.ensures)
+    (inside (around.Turn (record { over = taken; next = c.loop-over.next + 1 })) n c.args.pause.now.at c.turn.new.pause)) c.loop-over.invariant.outside c.enter.ensures)
     refl c.in-Err.ensures.goes
 
 pub turns-returns-in_default-stop : goal.turns-returns-in_default-stop
@@ -190,5 +196,5 @@ within-returns-in-Some-clause-goes b c =
 pub within-returns-in-For-clause-goes : goal.within-returns-in-For-clause-goes
 within-returns-in-For-clause-goes b c =
     within_turn (values_of c.args.known.now.snaps.now) c.args.stmt.now c.args.pause.now c.args.frame c.in-For.name c.in-For.field-1 c.in-For.stmts
-    c.as_slice-in-For.result.now c.in-Turn.over c.in-Turn.place c.round.result c.round.new.pause
+    c.as_slice-in-For.result.now c.in-Turn.left c.round.result c.round.new.pause
     (for_form c.args.stmt.now c.in-For.name c.in-For.field-1 c.in-For.stmts c.in-For.is) c.as_slice-in-For.ensures c.in-Turn.is c.round.ensures.goes

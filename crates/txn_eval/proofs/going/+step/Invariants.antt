@@ -2,7 +2,7 @@ use Rattle.std.proofs.Common.{◌≡◌, ◌-◌, [], drop, map, length}
 use Rattle.txn_lang.specs.Rules as rules
 use Rattle.txn_lang.specs.States.{PartialState}
 use Rattle.txn_lang.specs.Observed.{Extends}
-use Rattle.txn_eval.specs.Pausing.{texts_over}
+use Rattle.txn_eval.specs.Pausing.{texts_over, texts_left}
 use Rattle.txn_eval.specs.Running.{values_of}
 use Rattle.txn_eval.specs.code.Buffering.{kept}
 use Rattle.txn_eval.specs.code.Pauses.{stmts_left}
@@ -18,7 +18,7 @@ decreases-go_through-loop-stmt l = length l.stmts - l.pause.at
 abbrev pub invariant-turns-loop-over : goal.invariant-turns-loop-over
 invariant-turns-loop-over l = record {
   goes : (t : PartialState) → Extends (values_of l.known.snaps.now) t
-      → rules.turns l.name (map (rules.stmt_run (kept t)) l.stmts) (drop l.place (texts_over l.fn.over l.fn.pause.names)) l.fn.pause.names l.fn.pause.run
+      → rules.turns l.name (map (rules.stmt_run (kept t)) l.stmts) (texts_left l.fn.left l.fn.pause.names) l.fn.pause.names l.fn.pause.run
       ≡ rules.turns l.name (map (rules.stmt_run (kept t)) l.stmts) (drop l.next (texts_over l.over l.pause.names)) l.pause.names l.pause.run;
   names : l.pause.names ≡ l.fn.pause.names;
   trail : l.pause.trail ≡ [];

@@ -8,7 +8,7 @@ use Rattle.txn_eval.proofs.statement.write_value.Goals as goal
 pub returns : goal.returns
 returns c =
     let here = c.args.here.now in
-    subst (λ u. Keeps c.write_given.result here c.write_given.new.run (and_then u (λ i. write_here here (address_of c.args.kind i) c.args.word c.args.exprs.now)))
+    subst (λ u. Keeps c.write_given.result here c.write_given.new.run (and_then u (λ i. write_here here (address_of c.args.target.now.kind i) c.args.word c.args.exprs.now)))
     (sym c.in_ok-key.ensures)
     (subst (λ a. Keeps c.write_given.result here c.write_given.new.run (write_here here a c.args.word c.args.exprs.now c.key_of.new.run))
     c.address_of-address.ensures c.write_given.ensures)
