@@ -22,6 +22,7 @@ const ONE_TOO_MANY: &[u8] = b"0 do emit 1;\n0 do emit 1;\n";
 type Streams = (usize, usize, &'static [u64], &'static [u64]);
 
 /// The words of a command, the script and the streams over which it comes, the status, and what is written.
+#[derive(Clone, Copy)]
 struct Command {
     words: &'static [&'static str],
     script: &'static [u8],
