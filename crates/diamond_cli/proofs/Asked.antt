@@ -85,7 +85,7 @@ pub unread-nothing : (words : List (Bor Word)) (error : WordsError) → Refuses 
     → AsksNothing words
 unread-nothing words (words_error.BadWords bad) refuses is =
     let none : (p : Plan) → Spells (texts words) p → ⊥ =
-        λ p spells. refused-no-plan (texts words) (words_error.BadWords bad) bad p refuses refl spells in (
+    λ p spells. refused-no-plan (texts words) (words_error.BadWords bad) bad p refuses refl spells in (
       λ asks. none _ asks.1,
       λ asks. none _ asks.4,
       λ asks. none _ asks.5,

@@ -380,9 +380,7 @@ fn is_talk<R: Threads + Wait + Abort + Sync>(rt: &R, alloc: Global, talk: &Talk)
         MemLink::new(alloc, talk.first, 16, &[], &[]),
         MemLink::new(alloc, talk.second, 16, &[], &[]),
     ) {
-        (Ok(one), Ok(two)) => {
-            are_answered_so(&both_served(rt, alloc, Links { one, two }), talk)
-        }
+        (Ok(one), Ok(two)) => { are_answered_so(&both_served(rt, alloc, Links { one, two }), talk) }
         _ => false,
     }
 }

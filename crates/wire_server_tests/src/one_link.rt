@@ -240,7 +240,10 @@ static COMMITTED: Outcome = Outcome {
 fn links_that_end_within_a_frame_are_refused(rt: HostRuntime) {
     let frame = append();
     for end in 1..frame.len() {
-        assert!(rt; comes_to(&rt, rt.alloc(), &frame[..end], &REFUSED), "byte {end}");
+        assert!(rt;
+            comes_to(&rt, rt.alloc(), &frame[..end], &REFUSED),
+            "byte {end}"
+        );
     }
     assert!(rt; comes_to(&rt, rt.alloc(), frame, &COMMITTED));
 }
