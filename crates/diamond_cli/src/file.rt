@@ -10,7 +10,8 @@ ghost use Rattle.diamond_store.specs.Opening.{AreClients};
 ghost use Rattle.diamond_server.specs.Promises.{sides};
 ghost use Rattle.diamond_server.specs.Accounts.{gatherings, AreEnded};
 ghost use Rattle.diamond_cli.specs.Serving.{promised_of, HasServed, EndsLinks};
-ghost use Rattle.diamond_cli.specs.Filed.{storing, refusal, HoldsJournal, IsFiled, IsRefused, ServesFile};
+ghost use Rattle.diamond_cli.specs.Filed.{storing, refusal, HoldsJournal, IsFiled, IsRefused};
+ghost use Rattle.diamond_cli.specs.Filed.{ServesFile};
 
 use crate::line::say;
 use crate::service::{Asked, Service};
@@ -54,7 +55,8 @@ fn serve_recovered<D: Disk + Send, Li: Listener, V: Serves + Sync, R: Threads + 
     requires room { recovered.end + 1 < 2 ^ 64 }
     ensures served { IfOk result (λ filed. HasServed V.promised (sides Li.Link.Source Li.Link.Sink)
         service.now.settings service.now.sessions (gatherings Li.Listener listener.old listener.new)
-        recovered.commits (D.disk_faults disk.old) (D.disk_faults disk.new) filed.tally filed.commits) }
+        recovered.commits (D.disk_faults disk.old) (D.disk_faults disk.new)
+        filed.tally filed.commits) }
     ensures holds { IfOk result (λ filed. HoldsJournal filed.commits
         (D.disk_faults disk.old) (D.disk_faults disk.new) (D.state disk.new)) }
     ensures ends { OnOk result (AreEnded Li.Link.ended
@@ -120,7 +122,8 @@ fn serve_way<W: Sink, D: Disk + Send, Li: Listener, V: Serves + Sync, R: Threads
     ensures serves { ServesFile V.promised (sides Li.Link.Source Li.Link.Sink)
         service.now.settings service.now.sessions (gatherings Li.Listener listener.old listener.new)
         (storing D.Disk disk.old disk.new) result (writing W.Sink sink.old sink.new) }
-    ensures ends { EndsLinks Li.Link.ended (gatherings Li.Listener listener.old listener.new) result }
+    ensures ends { EndsLinks Li.Link.ended
+        (gatherings Li.Listener listener.old listener.new) result }
 {
     match serve_links(alloc, sink, disk, listener, service) {
         Ok(status) => status,
@@ -146,7 +149,8 @@ pub(crate) fn serve_file<W: Sink, D: Disk + Send, Li: Listener, R: Threads + Wai
     ensures serves { ServesFile (promised_of asked.now.wire) (sides Li.Link.Source Li.Link.Sink)
         asked.now.settings asked.now.sessions (gatherings Li.Listener listener.old listener.new)
         (storing D.Disk disk.old disk.new) result (writing W.Sink sink.old sink.new) }
-    ensures ends { EndsLinks Li.Link.ended (gatherings Li.Listener listener.old listener.new) result }
+    ensures ends { EndsLinks Li.Link.ended
+        (gatherings Li.Listener listener.old listener.new) result }
 {
     if asked.wire {
         let requests = Service {

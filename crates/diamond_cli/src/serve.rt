@@ -49,7 +49,8 @@ fn serve_way<W: Sink, Li: Listener, V: Serves + Sync, R: Threads + Wait + Sync>(
     ensures serves { ServesLinks V.promised (sides Li.Link.Source Li.Link.Sink)
         service.now.settings service.now.sessions (gatherings Li.Listener listener.old listener.new)
         result (writing W.Sink sink.old sink.new) }
-    ensures ends { EndsLinks Li.Link.ended (gatherings Li.Listener listener.old listener.new) result }
+    ensures ends { EndsLinks Li.Link.ended
+        (gatherings Li.Listener listener.old listener.new) result }
 {
     match serve_links(alloc, sink, listener, service) {
         Ok(status) => status,
@@ -71,7 +72,8 @@ pub(crate) fn serve<W: Sink, Li: Listener, R: Threads + Wait + Sync>(
     ensures serves { ServesLinks (promised_of asked.now.wire) (sides Li.Link.Source Li.Link.Sink)
         asked.now.settings asked.now.sessions (gatherings Li.Listener listener.old listener.new)
         result (writing W.Sink sink.old sink.new) }
-    ensures ends { EndsLinks Li.Link.ended (gatherings Li.Listener listener.old listener.new) result }
+    ensures ends { EndsLinks Li.Link.ended
+        (gatherings Li.Listener listener.old listener.new) result }
 {
     if asked.wire {
         let requests = Service {

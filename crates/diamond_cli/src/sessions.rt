@@ -79,7 +79,8 @@ fn serve_over<
         served.tally served.commits) }
     ensures ends { OnOk result (AreEnded Li.Link.ended
         (Li.given_back listener.old) (Li.given_back listener.new)) }
-    ensures kept { IfOk result (λ served. IfSome (K.kept served.keeper) (λ list. list ≡ served.commits)) }
+    ensures kept { IfOk result (λ served. IfSome (K.kept served.keeper)
+        (λ list. list ≡ served.commits)) }
     ensures home { IfOk result (λ served. K.home served.keeper ≡ home_in opened.lock.origin) }
 {
     let (rt, settings) = (service.rt, &service.settings);
@@ -115,7 +116,8 @@ pub(crate) fn serve_kept<Li: Listener, K: Keep + Send, V: Serves + Sync, R: Thre
         kept (K.keep_faults keeper) (K.keep_faults served.keeper) served.tally served.commits) }
     ensures ends { OnOk result (AreEnded Li.Link.ended
         (Li.given_back listener.old) (Li.given_back listener.new)) }
-    ensures kept { IfOk result (λ served. IfSome (K.kept served.keeper) (λ list. list ≡ served.commits)) }
+    ensures kept { IfOk result (λ served. IfSome (K.kept served.keeper)
+        (λ list. list ≡ served.commits)) }
     ensures home { IfOk result (λ served. K.home served.keeper ≡ K.home keeper) }
 {
     let opened = open(alloc, &service.settings, keeper, kept)?;

@@ -9,7 +9,8 @@ ghost use Rattle.remote_command.specs.Running.{ends};
 ghost use Rattle.diamond_cli.specs.Words.{AsksRun, AsksServe, AsksServeFile, AsksAudit};
 ghost use Rattle.diamond_cli.specs.Words.{AsksRemote, AsksLoad, AsksNothing, words_refusal};
 ghost use Rattle.diamond_cli.specs.Filed.{storing};
-ghost use Rattle.diamond_cli.specs.Commands.{RunsScript, Serves, Files, AuditsFile, Remotes, LoadsScript};
+ghost use Rattle.diamond_cli.specs.Commands.{RunsScript, Serves, Files, AuditsFile, Remotes};
+ghost use Rattle.diamond_cli.specs.Commands.{LoadsScript};
 
 use crate::audited::audit_file;
 use crate::file::serve_file;
@@ -80,18 +81,22 @@ pub fn diamond<R: Threads + Wait + Sync, S: Source, W: Sink, D: Disk + Send, N: 
     // 1 comes where the words ask for nothing, memory aside, and only there; and there all is as before.
     ensures form { result ≡ BAD_WORDS → AsksNothing words.now }
     ensures other { AsksNothing words.now → (result ≡ BAD_WORDS) ⊎ (result ≡ NO_MEMORY) }
-    ensures unread { AsksNothing words.now → (source.new ≡ source.old) × (listener.new ≡ listener.old) }
+    ensures unread { AsksNothing words.now → (source.new ≡ source.old)
+        × (listener.new ≡ listener.old) }
     ensures unwritten { AsksNothing words.now → (sink.new ≡ sink.old) × (disk.new ≡ disk.old) }
 
     // `run` keeps what a run of a script promises, and doesn't use the disk or the listener.
-    ensures run { AsksRun words.now → RunsScript words.now result (reading S.Source source.old source.new)
-        (writing W.Sink sink.old sink.new) }
-    ensures unused_by_run { AsksRun words.now → (disk.new ≡ disk.old) × (listener.new ≡ listener.old) }
+    ensures run { AsksRun words.now → RunsScript words.now result
+        (reading S.Source source.old source.new) (writing W.Sink sink.old sink.new) }
+    ensures unused_by_run { AsksRun words.now → (disk.new ≡ disk.old)
+        × (listener.new ≡ listener.old) }
 
     // `serve` keeps what it promises of its sessions. It doesn't use the source, nor, without a file, the disk.
     ensures serve { AsksServe words.now → Serves words.now N.Link.Source N.Link.Sink N.Link.ended
-        (gatherings N.Listener listener.old listener.new) result (writing W.Sink sink.old sink.new) }
-    ensures unused_by_serve { AsksServe words.now → (source.new ≡ source.old) × (disk.new ≡ disk.old) }
+        (gatherings N.Listener listener.old listener.new) result
+        (writing W.Sink sink.old sink.new) }
+    ensures unused_by_serve { AsksServe words.now → (source.new ≡ source.old)
+        × (disk.new ≡ disk.old) }
     ensures files { AsksServeFile words.now → Files words.now N.Link.Source N.Link.Sink N.Link.ended
         (gatherings N.Listener listener.old listener.new) (storing D.Disk disk.old disk.new)
         result (writing W.Sink sink.old sink.new) }
@@ -99,9 +104,10 @@ pub fn diamond<R: Threads + Wait + Sync, S: Source, W: Sink, D: Disk + Send, N: 
 
     // `audit` keeps what it promises of the journal in the disk's file. It doesn't use the source or the listener, and no call of
     // it changes the disk.
-    ensures audit { AsksAudit words.now → AuditsFile words.now (storing D.Disk disk.old disk.new) result
-        (writing W.Sink sink.old sink.new) }
-    ensures unused_by_audit { AsksAudit words.now → (source.new ≡ source.old) × (listener.new ≡ listener.old) }
+    ensures audit { AsksAudit words.now → AuditsFile words.now
+        (storing D.Disk disk.old disk.new) result (writing W.Sink sink.old sink.new) }
+    ensures unused_by_audit { AsksAudit words.now → (source.new ≡ source.old)
+        × (listener.new ≡ listener.old) }
     ensures spared_by_audit { AsksAudit words.now → (D.state disk.new ≡ D.state disk.old)
         × (D.past disk.new ≡ D.past disk.old) }
 
@@ -112,7 +118,8 @@ pub fn diamond<R: Threads + Wait + Sync, S: Source, W: Sink, D: Disk + Send, N: 
     ensures unused_by_remote { AsksRemote words.now → disk.new ≡ disk.old }
 
     // `load` keeps what it promises of its line, and uses nothing but the sink.
-    ensures load { AsksLoad words.now → LoadsScript words.now result (writing W.Sink sink.old sink.new) }
+    ensures load { AsksLoad words.now → LoadsScript words.now result
+        (writing W.Sink sink.old sink.new) }
     ensures unused_by_load { AsksLoad words.now → (source.new ≡ source.old) × (disk.new ≡ disk.old)
         × (listener.new ≡ listener.old) }
 {
