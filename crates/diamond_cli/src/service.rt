@@ -3,7 +3,7 @@
 use rdt_types::Settings;
 
 /// What the words ask of a serve.
-#[derive(Clone, Copy)]
+#[derive(Drop)]
 pub(crate) struct Asked<'a, R> {
     /// What starts threads and waits.
     pub(crate) rt: &'a R,
@@ -16,7 +16,7 @@ pub(crate) struct Asked<'a, R> {
 }
 
 /// A serve whose links are served in one way.
-#[derive(Clone, Copy)]
+#[derive(Drop)]
 pub(crate) struct Service<'a, V, R> {
     /// What starts threads and waits.
     pub(crate) rt: &'a R,
