@@ -21,6 +21,14 @@ use std::marker::Model;
 use txn_lang::{Commit, CommitList};
 use txn_trees::Body;
 
+/// What is kept of the commits so far: what the next one is looked at behind, and the state that is asked for.
+#[derive(Drop)]
+struct Kept {
+    auditor: Auditor,
+    /// The state that is asked for, as far as commits were taken.
+    asked: State,
+}
+
 /// An audit of commits that are handed to it one after another: each is looked at behind those before it, its number and its seq
 /// first, and then its body is run anew on the state that they leave. Nothing of it is taken on trust.
 ///
@@ -29,12 +37,10 @@ use txn_trees::Body;
 #[derive(Drop)]
 pub struct GrowingAudit {
     alloc: Global,
-    auditor: Auditor,
+    kept: Kept,
     /// What was found so far, unless memory was wanting.
     so_far: Option<Verdict>,
     at: Option<u64>,
-    /// The state that is asked for, as far as commits were taken.
-    asked: State,
     taken: Taken,
 }
 
@@ -49,7 +55,8 @@ impl Model for GrowingAudit {
 
     ghost view = { λ a. record { at = a.at; commits = a.taken.commits } };
 
-    ghost invariant = { λ a. IfSome a.so_far (λ v. HasGrown a.at a.taken.commits v a.auditor a.asked) };
+    ghost invariant = { λ a.
+        IfSome a.so_far (λ v. HasGrown a.at a.taken.commits v a.kept.auditor a.kept.asked) };
 }
 
 /// What an audit came to, and its report.
@@ -89,19 +96,19 @@ fn ask(
 
 /// What is found once a commit stands behind others, of which this was found.
 fn grow(
-    auditor: &mut Auditor,
-    asked: &mut State,
+    kept: &mut Kept,
     at: Option<u64>,
     so_far: Verdict,
     commit: &Commit,
     body: Option<Body>,
 ) -> Result<Verdict, AllocError>
     requires { IfSome body (IsBodyOf commit.now.body) }
-    ensures { (before : Journal) → HasGrown at before so_far auditor.old asked.old
-        → IfOk result (λ v. HasGrown at (before ++ commit.now ∷ []) v auditor.new asked.new) }
+    ensures { (before : Journal) → HasGrown at before so_far kept.old.auditor kept.old.asked
+        → IfOk result (λ v.
+        HasGrown at (before ++ commit.now ∷ []) v kept.new.auditor kept.new.asked) }
 {
-    ask(asked, at, so_far, commit)?;
-    auditor.next(so_far, commit, body)
+    ask(&mut kept.asked, at, so_far, commit)?;
+    kept.auditor.next(so_far, commit, body)
 }
 
 impl GrowingAudit {
@@ -111,10 +118,12 @@ impl GrowingAudit {
     {
         GrowingAudit {
             alloc,
-            auditor: Auditor::new(alloc),
+            kept: Kept {
+                auditor: Auditor::new(alloc),
+                asked: State::new(alloc),
+            },
             so_far: Some(Verdict::Legal(0)),
             at,
-            asked: State::new(alloc),
             taken: Taken::none(),
         }
     }
@@ -128,14 +137,7 @@ impl GrowingAudit {
         let Some(so_far) = self.so_far.take() else {
             return Err(AllocError);
         };
-        let found = grow(
-            &mut self.auditor,
-            &mut self.asked,
-            self.at,
-            so_far,
-            commit,
-            body,
-        )?;
+        let found = grow(&mut self.kept, self.at, so_far, commit, body)?;
         self.taken = self.taken.and(commit);
         self.so_far = Some(found);
         Ok(())
@@ -176,14 +178,15 @@ impl GrowingAudit {
     {
         let GrowingAudit {
             alloc,
+            kept,
             so_far,
             at,
-            asked,
             ..
         } = self;
         let Some(verdict) = so_far else {
             return Err(AllocError);
         };
+        let Kept { asked, .. } = kept;
         let text = told(alloc, verdict, at, asked)?;
         Ok(Audited { verdict, text })
     }

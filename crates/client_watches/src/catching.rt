@@ -14,6 +14,7 @@ ghost use Rattle.client_watches.specs.Lines as lines;
 
 use crate::error::WatchError;
 use crate::fetching::fetch;
+use crate::means::Means;
 use crate::replies::say;
 use crate::watching::{AddressList, ReplyList, Watching};
 use docc_prepare::Backend;
@@ -21,7 +22,7 @@ use plain_data::{Text, copied};
 use rdt_types::Outcome;
 use rerun_driver::{Driver, Rerun};
 use session_text::Reply;
-use std::alloc::{AllocError, Global};
+use std::alloc::AllocError;
 use std::mem::replace;
 use txn_lang::{Run, Seen, TICK_LIMIT};
 use watch_reruns::{Rerunner, Reruns, RunList};
@@ -109,14 +110,16 @@ fn rerun_one<B: Backend>(
 
 /// The runs of all stale watches on the values that are held, unless one of them needs another value.
 fn runs_of<R: Rerunner>(
-    reruns: &R,
-    alloc: Global,
+    means: &Means<'_, R>,
     watching: &Watching,
 ) -> Result<Option<RunList>, AllocError>
     ensures { IfOk result (λ runs. IfSome runs (λ list.
         all_reruns (held watching.now.cache) watching.now.watches ≡ reruns_of.Ran list)) }
 {
-    match reruns.rerun(alloc, &watching.watches, &watching.cache)? {
+    match means
+        .reruns
+        .rerun(means.alloc, &watching.watches, &watching.cache)?
+    {
         Reruns::Ran(list) => Ok(Some(list)),
         Reruns::Need(_) => Ok(None),
     }
@@ -152,7 +155,8 @@ fn rerun_some<B: Backend>(
 ) -> Result<Option<bool>, WatchError>
     requires keeps { Keeps (B.known backend.old) watching.old }
     requires some { 0 < count }
-    ensures goes { GoesOn B.known B.goes backend.old (watching.old, said.old) result backend.new (watching.new, said.new) }
+    ensures goes { GoesOn B.known B.goes backend.old (watching.old, said.old) result backend.new
+        (watching.new, said.new) }
     ensures keeps { IfOk result (λ all. Keeps (B.known backend.new) watching.new) }
     ensures free { IfOk result (λ all. spec.KeepsFree watching.old watching.new) }
     ensures fewer { IfOk result (λ all. IfNone all (spec.AreFewer watching.old watching.new)) }
@@ -171,8 +175,7 @@ fn rerun_some<B: Backend>(
 /// The runs are made all at once, by who makes reruns, and reported in order. Where one needs a value that isn't held, watches run
 /// one after another, as many as were reported so far, before all are tried again. So if each needs one, few runs are made twice.
 pub(crate) fn catch_up<B: Backend, R: Rerunner>(
-    reruns: &R,
-    alloc: Global,
+    means: &Means<'_, R>,
     backend: &mut B,
     watching: &mut Watching,
     said: &mut ReplyList,
@@ -185,7 +188,7 @@ pub(crate) fn catch_up<B: Backend, R: Rerunner>(
     ensures home { B.home backend.new ≡ B.home backend.old }
 {
     loop {
-        if let Some(runs) = runs_of(reruns, alloc, watching)? {
+        if let Some(runs) = runs_of(means, watching)? {
             report_all(watching, said, runs)?;
             return Ok(true);
         }

@@ -13,6 +13,8 @@ mod error;
 mod fetching;
 mod laws;
 mod lines;
+mod means;
+mod new_watch;
 mod replies;
 mod running;
 mod watching;
@@ -23,4 +25,6 @@ pub use laws::{
     lines_say_what_is_seen, others_leave_standing, passing_stays, sync_is_explained,
     unwatch_is_explained, watch_is_explained,
 };
+pub use means::Means;
+pub use new_watch::NewWatch;
 pub use watching::{AddressList, ReplyList, Watching};

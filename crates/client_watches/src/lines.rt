@@ -11,6 +11,8 @@ use crate::catching::{catch_up, loosen};
 use crate::dropping::drop_idle;
 use crate::error::WatchError;
 use crate::fetching::take;
+use crate::means::Means;
+use crate::new_watch::NewWatch;
 use crate::replies::none_said;
 use crate::running::first_run;
 use crate::watching::{AddressList, ReplyList, Watching};
@@ -20,7 +22,6 @@ use plain_data::Text;
 use rerun_driver::Driver;
 use session_text::{Reply, Why};
 use std::alloc::{AllocError, Global};
-use txn_lang::Checked;
 use watch_reruns::{One, Rerunner};
 
 /// One reply.
@@ -43,8 +44,7 @@ fn forget(watching: &mut Watching, name: &Text) -> Result<(), AllocError>
 
 /// Brings all watches up to date, and says that they hold, unless a value was late.
 fn say_current<B: Backend, R: Rerunner>(
-    reruns: &R,
-    alloc: Global,
+    means: &Means<'_, R>,
     backend: &mut B,
     watching: &mut Watching,
     said: &mut ReplyList,
@@ -55,7 +55,7 @@ fn say_current<B: Backend, R: Rerunner>(
     ensures keeps { IfOk result (λ u. Keeps (B.known backend.new) watching.new) }
     ensures home { B.home backend.new ≡ B.home backend.old }
 {
-    let all = catch_up(reruns, alloc, backend, watching, said)?;
+    let all = catch_up(means, backend, watching, said)?;
     if !all {
         return Ok(());
     }
@@ -65,27 +65,26 @@ fn say_current<B: Backend, R: Rerunner>(
 
 /// Brings all watches up to date, and makes a new one, unless a value was late.
 fn make<B: Backend, R: Rerunner>(
-    reruns: &R,
-    alloc: Global,
+    means: &Means<'_, R>,
     backend: &mut B,
     watching: &mut Watching,
     said: &mut ReplyList,
-    name: Text,
-    body: Checked,
+    new_watch: NewWatch,
 ) -> Result<(), WatchError>
     requires keeps { Keeps (B.known backend.old) watching.old }
-    requires free { watch_of watching.old.watches name ≡ None }
-    ensures plays { Plays B.known B.goes backend.old (lines.make name body said.old watching.old)
+    requires free { watch_of watching.old.watches new_watch.name ≡ None }
+    ensures plays { Plays B.known B.goes backend.old
+        (lines.make new_watch.name new_watch.body said.old watching.old)
         result (λ u. (watching.new, said.new)) backend.new }
     ensures keeps { IfOk result (λ u. Keeps (B.known backend.new) watching.new) }
     ensures home { B.home backend.new ≡ B.home backend.old }
 {
-    let all = catch_up(reruns, alloc, backend, watching, said)?;
+    let all = catch_up(means, backend, watching, said)?;
     if !all {
         return Ok(());
     }
-    drop_idle(alloc, backend, watching)?;
-    first_run(alloc, backend, watching, said, name, body)?;
+    drop_idle(means.alloc, backend, watching)?;
+    first_run(means.alloc, backend, watching, said, new_watch)?;
     Ok(())
 }
 
@@ -131,7 +130,7 @@ impl Watching {
     {
         let mut said = none_said(alloc)?;
         take(backend, self)?;
-        say_current(reruns, alloc, backend, self, &mut said)?;
+        say_current(&Means { alloc, reruns }, backend, self, &mut said)?;
         drop_idle(alloc, backend, self)?;
         Ok(said)
     }
@@ -141,16 +140,16 @@ impl Watching {
         &mut self,
         alloc: Global,
         backend: &mut B,
-        name: Text,
-        body: Checked,
+        new_watch: NewWatch,
     ) -> Result<ReplyList, WatchError>
         requires { Keeps (B.known backend.old) self.old }
-        ensures plays { Plays B.known B.goes backend.old (lines.watch self.old name body) result
+        ensures plays { Plays B.known B.goes backend.old
+            (lines.watch self.old new_watch.name new_watch.body) result
             (λ said. (self.new, said)) backend.new }
         ensures keeps { IfOk result (λ said. Keeps (B.known backend.new) self.new) }
         ensures home { B.home backend.new ≡ B.home backend.old }
     {
-        self.watch_by(alloc, backend, &One, name, body)
+        self.watch_by(alloc, backend, &One, new_watch)
     }
 
     /// The same, where the reruns are made by others.
@@ -159,22 +158,28 @@ impl Watching {
         alloc: Global,
         backend: &mut B,
         reruns: &R,
-        name: Text,
-        body: Checked,
+        new_watch: NewWatch,
     ) -> Result<ReplyList, WatchError>
         requires { Keeps (B.known backend.old) self.old }
-        ensures plays { Plays B.known B.goes backend.old (lines.watch self.old name body) result
+        ensures plays { Plays B.known B.goes backend.old
+            (lines.watch self.old new_watch.name new_watch.body) result
             (λ said. (self.new, said)) backend.new }
         ensures keeps { IfOk result (λ said. Keeps (B.known backend.new) self.new) }
         ensures home { B.home backend.new ≡ B.home backend.old }
     {
         let refusal = one_reply(alloc, Reply::Refused(Why::Name))?;
-        if self.watches.has(&name) {
+        if self.watches.has(&new_watch.name) {
             return Ok(refusal);
         }
         let mut said = none_said(alloc)?;
         take(backend, self)?;
-        make(reruns, alloc, backend, self, &mut said, name, body)?;
+        make(
+            &Means { alloc, reruns },
+            backend,
+            self,
+            &mut said,
+            new_watch,
+        )?;
         drop_idle(alloc, backend, self)?;
         Ok(said)
     }

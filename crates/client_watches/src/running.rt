@@ -9,9 +9,10 @@ ghost use Rattle.client_watches.specs.Lines as lines;
 
 use crate::error::WatchError;
 use crate::fetching::fetch;
+use crate::new_watch::NewWatch;
 use crate::watching::{ReplyList, Watching};
 use docc_prepare::Backend;
-use plain_data::{Text, copied};
+use plain_data::copied;
 use rdt_types::Outcome;
 use rerun_driver::{Begun, run_from};
 use session_text::Reply;
@@ -58,15 +59,17 @@ fn run_body<B: Backend>(
 fn keep(
     watching: &mut Watching,
     said: &mut ReplyList,
-    name: Text,
-    body: Checked,
+    new_watch: NewWatch,
     run: Run,
 ) -> Result<(), AllocError>
-    requires free { watch_of watching.old.watches name ≡ None }
-    ensures watching { OnOk result (watching.new ≡ spec.with_first watching.old name body run) }
-    ensures said { OnOk result (said.new ≡ said.old ++ spec.report_of watching.old name run ∷ []) }
+    requires free { watch_of watching.old.watches new_watch.name ≡ None }
+    ensures watching { OnOk result
+        (watching.new ≡ spec.with_first watching.old new_watch.name new_watch.body run) }
+    ensures said { OnOk result
+        (said.new ≡ said.old ++ spec.report_of watching.old new_watch.name run ∷ []) }
 {
     let number = watching.cache.at();
+    let NewWatch { name, body } = new_watch;
     let mut run = run;
     // The watch keeps what the run observed, and the reply its outcome.
     let outcome = replace(&mut run.outcome, Outcome::Spent);
@@ -82,18 +85,18 @@ pub(crate) fn first_run<B: Backend>(
     backend: &mut B,
     watching: &mut Watching,
     said: &mut ReplyList,
-    name: Text,
-    body: Checked,
+    new_watch: NewWatch,
 ) -> Result<(), WatchError>
     requires keeps { Keeps (B.known backend.old) watching.old }
-    requires free { watch_of watching.old.watches name ≡ None }
-    ensures plays { Plays B.known B.goes backend.old (lines.first_run name body said.old watching.old)
+    requires free { watch_of watching.old.watches new_watch.name ≡ None }
+    ensures plays { Plays B.known B.goes backend.old
+        (lines.first_run new_watch.name new_watch.body said.old watching.old)
         result (λ u. (watching.new, said.new)) backend.new }
     ensures keeps { IfOk result (λ u. Keeps (B.known backend.new) watching.new) }
     ensures home { B.home backend.new ≡ B.home backend.old }
 {
-    if let Some(run) = run_body(alloc, backend, watching, said, &body)? {
-        keep(watching, said, name, body, run)?;
+    if let Some(run) = run_body(alloc, backend, watching, said, &new_watch.body)? {
+        keep(watching, said, new_watch, run)?;
     }
     Ok(())
 }

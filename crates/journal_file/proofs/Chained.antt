@@ -1,6 +1,7 @@
 -- A commit more in a chain.
 use Rattle.std.proofs.Common.{◌≡◌, ℕ, suc, ◌+◌, ◌<◌, Bool, true, false, cond, List, [], ◌∷◌, ◌++◌, length, map, get_or, Some, Result, Ok, Err, IfOk, refl, ap, sym, subst, ◌∙◌, arith}
 use Rattle.std.specs.Prelude.{◌==◌, Option, IfSome}
+use Rattle.std.specs.declared.alloc.AllocError.{AllocError}
 use Rattle.std.specs.Map.{lookup}
 use Rattle.std.specs.BTreeMap.{insert_entry, is_at}
 use Rattle.std.specs.Ordering.{nat_cmp, is_eq}
@@ -21,8 +22,8 @@ use Rattle.journal_core.specs.Keeping.{IsNext}
 use Rattle.commit_file.specs.declared.version.Version.TheVariants.{Two}
 use Rattle.record_code.specs.Payloads.{payload, IsRecorded}
 use Rattle.journal_file.specs.declared.counts.Counts.{Counts}
-use Rattle.journal_file.specs.Chains.{Continues, AreContinued, or_zero, counted, AreCounted, IsChain}
-use Rattle.journal_file.specs.Commits.{in_front, commits_of, is_next}
+use Rattle.journal_file.specs.Chains.{Continues, AreContinued, or_zero, counted, AreCounted, IsChain, Follows}
+use Rattle.journal_file.specs.Commits.{in_front, commits_of}
 use Rattle.journal_file.proofs.Following.{passes-next}
 use Rattle.journal_file.proofs.Recorded.{recorded-read}
 
@@ -84,17 +85,24 @@ pub continued-more : (commits : Journal) (commit : Commit) → AreContinued comm
 continued-more commits commit continued recorded next =
     IsLawful-push (λ base before c. Continues before c) 0 commits commit continued (record { recorded = recorded; next = next })
 
--- a chain with a commit more, which passed the test and was counted
-pub IsChain-more : (held told : Option Counts) (counts counts_then : Counts) (before after : Journal) (commit : Commit) (b : Bool)
-    → IsChain held before → told ≡ held → told ≡ Some counts → IsRecorded Two commit
-    → ((j : Journal) → AreCounted j counts → b ≡ is_next j commit) → b ≡ true
-    → ((j : Journal) → AreCounted j counts → IsNext j commit → AreCounted (j ++ commit ∷ []) counts_then)
-    → after ≡ before ++ commit ∷ [] → IsChain (Some counts_then) after
-IsChain-more held told counts counts_then before after commit b chain same is recorded tests passes adds took =
+-- whether a commit was taken, where memory wasn't wanting
+abbrev taken : Bool → Result Bool AllocError
+taken took = Ok took
+
+-- a chain behind a commit, which was taken where it is the next
+pub IsChain-behind : (held told : Option Counts) (counts counts_then : Counts) (before after : Journal) (commit : Commit)
+    → (took : Bool) → IsChain held before → told ≡ held → told ≡ Some counts → IsRecorded Two commit
+    → ((j : Journal) → AreCounted j counts → Follows j commit (taken took) counts_then)
+    → after ≡ cond took (before ++ commit ∷ []) before → IsChain (Some counts_then) after
+IsChain-behind held told counts counts_then before after commit true chain same is recorded follows took =
     let are : AreCounted before counts = subst (λ o. IfSome o (AreCounted before)) (sym same ∙ is) chain.counted in
-    let next : IsNext before commit = passes-next before commit (sym (tests before are) ∙ passes) in
+    let next : IsNext before commit = passes-next before commit (follows before are).0 in
     subst (IsChain (Some counts_then)) (sym took)
-    (record { continued = continued-more before commit chain.continued recorded next; counted = adds before are next })
+    (record { continued = continued-more before commit chain.continued recorded next; counted = (follows before are).1 })
+IsChain-behind held told counts counts_then before after commit false chain same is recorded follows took =
+    let are : AreCounted before counts = subst (λ o. IfSome o (AreCounted before)) (sym same ∙ is) chain.counted in
+    subst (IsChain (Some counts_then)) (sym took)
+    (record { continued = chain.continued; counted = (follows before are).1 })
 
 -- ---- what the payloads say
 

@@ -1,5 +1,5 @@
 -- Commits that were taken one behind another: what is known of each, and how many each client has.
-use Rattle.std.specs.Prelude.{◌≡◌, ℕ, List, length, Option, Some, None, IfSome}
+use Rattle.std.specs.Prelude.{◌≡◌, ℕ, Bool, true, false, List, [], ◌∷◌, ◌++◌, length, Option, Some, None, IfSome, Result, Ok, Err}
 use Rattle.std.specs.Map.{lookup}
 use Rattle.std.specs.BTreeMap.{is_at}
 use Rattle.std.specs.Ordering.{nat_cmp}
@@ -11,6 +11,7 @@ use Rattle.journal_core.specs.Keeping.{IsNext}
 use Rattle.commit_file.specs.declared.version.Version.TheVariants.{Two}
 use Rattle.record_code.specs.Payloads.{IsRecorded}
 use Rattle.journal_file.specs.declared.counts.Counts.{Counts}
+use Rattle.journal_file.specs.Commits.{is_next}
 
 -- The commit may stand behind these: it has a payload, the next number, and the next seq of its client.
 pub record Continues (before : Journal) (commit : Commit) : Type 0 where
@@ -39,3 +40,10 @@ pub record AreCounted (commits : Journal) (counts : Counts) : Type 0 where
 pub record IsChain (counts : Option Counts) (commits : Journal) : Type 0 where
   pub continued : AreContinued commits
   pub counted : IfSome counts (AreCounted commits)
+
+-- WHAT BECOMES OF A COMMIT behind others, which are counted: it is taken exactly where it is the next, and counted then. Where it
+-- isn't, just that is told: memory is wanting only for a commit that is the next.
+abbrev pub Follows : {E : Type 0} → Journal → Commit → Result Bool E → Counts → Type 0
+Follows before commit (Ok true) new = (is_next before commit ≡ true) × AreCounted (before ++ commit ∷ []) new
+Follows before commit (Ok false) new = (is_next before commit ≡ false) × AreCounted before new
+Follows before commit (Err error) new = is_next before commit ≡ true

@@ -1,3 +1,4 @@
 pub mod Commits
 pub mod Chains
 pub mod Keepers
+pub mod code

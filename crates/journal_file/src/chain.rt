@@ -1,11 +1,12 @@
 //! The commits of payloads, taken one behind another.
 
-ghost use Rattle.std.specs.Prelude.{◌≡◌, ◌<◌, ◌++◌, ◌∷◌, [], ℕ, All, length, map, if◌then◌else◌, IfOk, Some, Ok, Err};
+ghost use Rattle.std.specs.Prelude.{◌≡◌, ◌<◌, ◌++◌, ◌∷◌, [], ℕ, All, length, map, if◌then◌else◌, IfOk, OnErr, Some, Ok, Err};
 ghost use Rattle.std.specs.List.{AllByRecursion};
 ghost use Rattle.std.specs.List.Sorted.{IsStrictlySortedBy};
 ghost use Rattle.std.specs.Map.{keys_of};
 ghost use Rattle.rdt_types.specs.Addresses.{address_cmp};
 ghost use Rattle.commit_file.specs.declared.version.Version.TheVariants.{Two as version_two};
+ghost use Rattle.txn_lang.specs.States.{Journal};
 ghost use Rattle.txn_lang.specs.Journals.{IsLegal};
 ghost use Rattle.txn_lang.specs.Tree.{tree};
 ghost use Rattle.journal_core.specs.declared.limits.TheConstants.{FIRST_UNTOLD_CLIENT};
@@ -13,7 +14,9 @@ ghost use Rattle.journal_core.specs.Kinds.{HasKinds};
 ghost use Rattle.journal_core.specs.Pairs.{AreNumbered};
 ghost use Rattle.record_code.specs.declared.decode_error.DecodeError.TheVariants.{BadRecord};
 ghost use Rattle.record_code.specs.Payloads.{payload, decoded, IsRecorded};
+ghost use Rattle.journal_file.specs.Chains.{AreCounted, Follows};
 ghost use Rattle.journal_file.specs.Commits.{commits_of, is_next};
+ghost use Rattle.journal_file.specs.code.Faults as code;
 
 use crate::counts::Counts;
 use crate::taker::CommitTaker;
@@ -46,6 +49,39 @@ impl<T: CommitTaker> Model for CommitChain<T> {
     ghost view = { λ chain. T.commits chain.taker };
 
     ghost invariant = { λ chain. IsChain chain.counts (T.commits chain.taker) };
+}
+
+/// What a payload is that isn't decoded. One that is none is never told as want of memory.
+fn not_decoded(error: DecodeError) -> Result<bool, AllocError>
+    ensures { result ≡ code.not_decoded error }
+{
+    match error {
+        DecodeError::BadRecord(_place) => Ok(false),
+        DecodeError::NoMemory => Err(AllocError),
+    }
+}
+
+/// Takes a commit behind those that are counted, if it is the next, with the body that its text is. One that isn't is never told as
+/// want of memory.
+fn follow<T: CommitTaker>(
+    counts: &mut Counts,
+    taker: &mut T,
+    commit: Commit,
+    body: Body,
+) -> Result<bool, AllocError>
+    requires { tree commit.body ≡ Some body }
+    ensures follows { (before : Journal) → AreCounted before counts.old
+        → Follows before commit result counts.new }
+    ensures takes { IfOk result (λ took. T.commits taker.new
+        ≡ (if took then T.commits taker.old ++ commit ∷ [] else T.commits taker.old)) }
+    ensures same { OnErr result (T.commits taker.new ≡ T.commits taker.old) }
+{
+    if !counts.is_next(&commit) {
+        return Ok(false);
+    }
+    counts.add(&commit)?;
+    taker.take(commit, body)?;
+    Ok(true)
 }
 
 impl<T: CommitTaker> CommitChain<T> {
@@ -86,14 +122,9 @@ impl<T: CommitTaker> CommitChain<T> {
         let Some(mut counts) = self.counts.take() else {
             return Err(AllocError);
         };
-        if !counts.is_next(&commit) {
-            self.counts = Some(counts);
-            return Ok(false);
-        }
-        counts.add(&commit)?;
-        self.taker.take(commit, body)?;
+        let took = follow(&mut counts, &mut self.taker, commit, body)?;
         self.counts = Some(counts);
-        Ok(true)
+        Ok(took)
     }
 
     /// Says that the payloads of the commits are read as them. It does nothing.
@@ -117,8 +148,7 @@ impl<T: CommitTaker> Chain for CommitChain<T> {
         self.is_read();
         match decode_with_body(self.alloc, version, bytes) {
             Ok((commit, body)) => self.take_commit(commit, body),
-            Err(DecodeError::BadRecord(_)) => Ok(false),
-            Err(DecodeError::NoMemory) => Err(AllocError),
+            Err(error) => not_decoded(error),
         }
     }
 }

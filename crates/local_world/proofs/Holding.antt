@@ -1,6 +1,6 @@
 -- A shard that follows the journal goes on holding it, and so do the others.
 use Rattle.std.proofs.Common.{◌≡◌, ℕ, zero, suc, ◌≤◌, ◌<◌, max, List, [], ◌∷◌, ◌++◌, length, take, get_or, set, Some, Result, Ok, Err}
-use Rattle.std.proofs.Common.{IfOk, true, false, cond, ◌-◌, inl, inr, refl, sym, ap, ◌∙◌, subst, arith}
+use Rattle.std.proofs.Common.{IfOk, OnOk, true, false, cond, ◌-◌, inl, inr, refl, sym, ap, ◌∙◌, subst, arith}
 use Rattle.std.specs.Prelude.{◌⊎◌, slice_get, nat_lt}
 use Rattle.std.proofs.lemmas.List.{take-append-le, length-append, length-set, get_or-set_same}
 use Rattle.std.proofs.lemmas.Bool.Decides.{nat_tests}
@@ -20,11 +20,12 @@ use Rattle.journal_core.specs.Changes.{changes, between, of_shard}
 use Rattle.journal_core.specs.Tails.{HasAll}
 use Rattle.version_shard.specs.Shards.{Sharded, IsIn}
 use Rattle.version_shard.specs.Validating.{ReadsAt}
+use Rattle.version_shard.specs.declared.at_error.AtError.{AtError}
 use Rattle.version_shard.specs.declared.at_error.AtError.TheVariants as at_error
 use Rattle.version_shard.specs.Standing.{Holds, IsNext}
 use Rattle.version_shard.proofs.Legal.{legal-is-readable, tails-are-of-their-kinds}
-use Rattle.docc_prepare.specs.Calls.{Answer}
-use Rattle.local_world.specs.Answering.{back_at}
+use Rattle.docc_prepare.specs.Calls.{Answer, value_answered}
+use Rattle.local_world.specs.Answering.{back_at, value_told}
 use Rattle.docc_prepare.proofs.Growing.{legal_is_orderly}
 use Rattle.docc_prepare.proofs.Stored.{kept, rises}
 use Rattle.local_world.specs.Standing.{IsHeld, AreHeld, HaveRisen, fronts_of}
@@ -266,6 +267,18 @@ module _ (journal : Journal) (settings : Settings) (before after : List Sharded)
       let same : horizon ≡ top - settings.window = let e = reads.2 in omega arith in
       ap (λ (n : ℕ). Answer.late n horizon) reads.1 ∙ ap (Answer.late seen) same
       ∙ sym (ap (λ b. cond b (Answer.late seen (top - settings.window)) (Answer.value (state journal seen address))) yes)
+
+  -- so what is told of the shard's answer is what is so at that number
+  pub back-told : (r : Result Value AtError) → ((first : Journal) → Holds first s → ReadsAt first s address seen r)
+      → IfOk (value_told r) (λ answer. value_answered answer ≡ back_at journal settings.window address seen top)
+  back-told (Ok value) reads = back-value value (reads (take s.front journal) its.holds)
+  back-told (Err (at_error.Late asked horizon)) reads = back-late asked horizon (reads (take s.front journal) its.holds)
+  back-told (Err at_error.NoMemory) reads = tt
+
+-- what is so is so at an answer
+pub on_ok : {V E : Type 0} (r : Result V E) {P : Type 0} → P → OnOk r P
+on_ok (Ok v) p = p
+on_ok (Err e) p = tt
 
 -- the place of an address is that of a shard
 pub place-below : (settings : Settings) (address : Address) (place : ℕ) → place ≡ shard_of address settings.shards → place < settings.shards

@@ -1,7 +1,8 @@
 //! The shards of a world: they follow the journal, and are read and validated.
 
-ghost use Rattle.std.specs.Prelude.{◌≡◌, ◌≤◌, ◌<◌, length, max, set, get_or, IfOk, OnOk};
+ghost use Rattle.std.specs.Prelude.{◌≡◌, ◌≤◌, ◌<◌, length, max, set, get_or, IfOk, OnOk, OnErr};
 ghost use Rattle.txn_lang.specs.States as states;
+ghost use Rattle.version_shard.specs.Shards.{IsIn};
 ghost use Rattle.version_shard.specs.Standing.{HoldsSoFar};
 ghost use Rattle.std.specs.List.{AllByRecursion};
 ghost use Rattle.rdt_types.specs.Shards.{shard_of};
@@ -9,7 +10,8 @@ ghost use Rattle.abort_witness.specs.Kinds.{IsBasedOfOneKind};
 ghost use Rattle.txn_lang.specs.States.{state};
 ghost use Rattle.txn_lang.specs.Journals.{IsLegal};
 ghost use Rattle.docc_prepare.specs.Calls.{value_answered};
-ghost use Rattle.local_world.specs.Answering.{back_from, IsValidatedBy};
+ghost use Rattle.local_world.specs.Answering as answering;
+ghost use Rattle.local_world.specs.Answering.{back_from, IsValidatedBy, WantsWitness};
 ghost use Rattle.local_world.specs.Standing.{IsHeld, AreHeld, HaveRisen, fronts_of, fronts_to};
 
 use abort_witness::Based;
@@ -92,6 +94,17 @@ pub(crate) fn read_in(
     shards[place as usize].read(address)
 }
 
+/// What is told of a shard's answer at a number: that it is late there is no want of memory.
+fn value_told(answer: Result<Value, AtError>) -> Result<Result<Value, ReadAtError>, AllocError>
+    ensures { result ≡ answering.value_told answer }
+{
+    match answer {
+        Ok(value) => Ok(Ok(value)),
+        Err(AtError::Late(number, horizon)) => Ok(Err(ReadAtError::Late(number, horizon))),
+        Err(AtError::NoMemory) => Err(AllocError),
+    }
+}
+
 /// The value at an address at a number, to which its shard is let follow first; or that it is late there.
 pub(crate) fn read_back(
     journal: &Journal<MemKeep>,
@@ -112,10 +125,20 @@ pub(crate) fn read_back(
 {
     let place = shard_of(address, settings.shards);
     follow_at(journal, settings, shards, place, number)?;
-    match shards[place as usize].read_at(address, number) {
-        Ok(value) => Ok(Ok(value)),
-        Err(AtError::Late(number, horizon)) => Ok(Err(ReadAtError::Late(number, horizon))),
-        Err(AtError::NoMemory) => Err(AllocError),
+    value_told(shards[place as usize].read_at(address, number))
+}
+
+/// What is told of what a shard finds of observations: neither late nor a clash is a want of memory.
+fn front_told(
+    found: Result<Prepared, Refusal>,
+) -> Result<Result<Prepared, PrepareError>, AllocError>
+    ensures { result ≡ answering.front_told found }
+{
+    match found {
+        Ok(prepared) => Ok(Ok(prepared)),
+        Err(Refusal::Late(base, horizon)) => Ok(Err(PrepareError::Late(base, horizon))),
+        Err(Refusal::Clash(witness)) => Ok(Err(PrepareError::Clash(witness))),
+        Err(Refusal::NoMemory) => Err(AllocError),
     }
 }
 
@@ -128,16 +151,14 @@ pub(crate) fn validate_in<L: Ledger>(
     requires name { blank.name ≡ L.name }
     requires parts { blank.parts ≡ L.parts }
     requires one { blank.parts ≡ 1 }
-    requires here { AllByRecursion (λ b. shard_of b.address shard.now.shards ≡ shard.now.number) based.now }
+    requires here { AllByRecursion (λ b. IsIn shard.now b.address) based.now }
     requires kinds { AllByRecursion IsBasedOfOneKind based.now }
-    ensures { (journal : states.Journal) → IsLegal 0 journal → HoldsSoFar journal shard.now
+    ensures answer { (journal : states.Journal) → IsLegal 0 journal → HoldsSoFar journal shard.now
         → IfOk result (IsValidatedBy journal shard.now based.now) }
+    ensures err { (journal : states.Journal) → HoldsSoFar journal shard.now
+        → OnErr result (WantsWitness journal shard.now based.now) }
 {
     let mut steps = Steps::<L>::new(blank);
-    match shard.validate(based, &mut steps) {
-        Ok(prepared) => Ok(Ok(prepared)),
-        Err(Refusal::Late(base, horizon)) => Ok(Err(PrepareError::Late(base, horizon))),
-        Err(Refusal::Clash(witness)) => Ok(Err(PrepareError::Clash(witness))),
-        Err(Refusal::NoMemory) => Err(AllocError),
-    }
+    let found = shard.validate(based, &mut steps);
+    front_told(found)
 }

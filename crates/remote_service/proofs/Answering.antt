@@ -13,6 +13,7 @@ use Rattle.remote_service.specs.declared.error.ServiceError.TheVariants as error
 use Rattle.remote_service.specs.declared.service.Service.{Service}
 use Rattle.remote_service.specs.Malformed.{Meaning, if_so, appending, meaning, meaning_if, meaning_in}
 use Rattle.remote_service.specs.Serving.{WasMade, Responds, ByCall, IsAnswered, Answered, MadeCall, HasFailed, HasStalled}
+use Rattle.remote_service.specs.Serving.{AsksToAnswer, LacksOnlyAsked}
 use Rattle.remote_service.specs.code.Told.{Spells}
 
 -- no bytes, but an error
@@ -128,6 +129,10 @@ module _ {B : Type 0} (known : B → Known) (goes : B → Call → Answer → B 
         by error.Malformed n is h f = absurd (cc)
         by error.NoMemory n is h f = absurd (cc)
 
+    -- want of memory is told of that alone
+    is_want : (z w : ServiceError) → w ≡ z → failing w ≡ Err error.NoMemory → z ≡ error.NoMemory
+    is_want z w f g = let k : w ≡ error.NoMemory = cc in sym f ∙ k
+
     -- where memory was wanted the call was made or not
     stalled-by : (n : Meaning) → m ≡ n → (o : Result WireAnswer ServiceError) → Responds known goes s b asked n o t d
         → (o ≡ Err error.NoMemory) ⊎ ((w : WireAnswer) × (o ≡ Ok w)) → HasStalled known goes s b bytes t d
@@ -136,7 +141,7 @@ module _ {B : Type 0} (known : B → Known) (goes : B → Call → Answer → B 
         inr (as-made false call is (record { answer = _; can = h.can; step = h.step; fault = h.told }))
     stalled-by Meaning.malformed is (Ok w) h how = absurd h
     stalled-by Meaning.greeting is (Err error.NoMemory) h how = inl h
-    stalled-by Meaning.malformed is (Err error.NoMemory) h how = inl h
+    stalled-by Meaning.malformed is (Err error.NoMemory) h how = inl h.1
     stalled-by (Meaning.calling call) is (Err error.NoMemory) (inl h) how = inl h
     stalled-by (Meaning.calling call) is (Err error.NoMemory) (inr h) how = inr (as-made false call is h)
     stalled-by n is (Err error.Malformed) h (inl e) = absurd (cc)
@@ -150,6 +155,23 @@ module _ {B : Type 0} (known : B → Known) (goes : B → Call → Answer → B 
     stalled-bytes (Ok w) (Err x) h spells e = stalled-by m refl (Ok w) h (inr (w, refl))
     stalled-bytes (Err x) (Ok told) h spells e = absurd spells
     stalled-bytes (Err x) (Err y) h spells e = stalled-by m refl (Err x) h (inl (ap (λ z. Err z) (is_want x y spells e)))
-      where
-        is_want : (z w : ServiceError) → w ≡ z → failing w ≡ Err error.NoMemory → z ≡ error.NoMemory
-        is_want z w f g = let k : w ≡ error.NoMemory = cc in sym f ∙ k
+
+    -- where memory was wanted it is asked for to answer
+    asks-by : (n : Meaning) (o : Result WireAnswer ServiceError) → Responds known goes s b asked n o t d
+        → (o ≡ Err error.NoMemory) ⊎ ((w : WireAnswer) × (o ≡ Ok w)) → AsksToAnswer s asked n
+    asks-by Meaning.greeting o h how = tt
+    asks-by (Meaning.calling call) o h how = tt
+    asks-by Meaning.malformed (Ok w) h how = absurd h
+    asks-by Meaning.malformed (Err error.NoMemory) h how = h.0
+    asks-by Meaning.malformed (Err error.Malformed) h (inl e) = absurd (cc)
+    asks-by Meaning.malformed (Err error.Malformed) h (inr e) = absurd (let f = e.1 in cc)
+    asks-by Meaning.malformed (Err error.StoreFault) h how = absurd h
+
+    pub lacks-asked : (outcome : Result WireAnswer ServiceError) (result : Result (List ℕ) ServiceError) → Responds known goes s b asked m outcome t d
+        → Spells outcome result → LacksOnlyAsked s (known b) bytes result
+    lacks-asked (Ok w) (Ok told) h spells = λ e. absurd (cc)
+    lacks-asked (Ok w) (Err x) h spells = λ e.
+        inr (record { asked = asked; read = read; asks = asks-by m (Ok w) h (inr (w, refl)) })
+    lacks-asked (Err x) (Ok told) h spells = absurd spells
+    lacks-asked (Err x) (Err y) h spells = λ e.
+        inr (record { asked = asked; read = read; asks = asks-by m (Err x) h (inl (ap (λ z. Err z) (is_want x y spells e))) })

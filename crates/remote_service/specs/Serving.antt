@@ -22,6 +22,7 @@ use Rattle.remote_wire.specs.declared.answer.WireAnswer.{WireAnswer}
 use Rattle.remote_wire.specs.AnswerSpelling.{answer_bytes}
 use Rattle.remote_wire.specs.Answers.{IsAnswerTo, answer_in}
 use Rattle.remote_wire.specs.Requests.{request_in}
+use Rattle.remote_wire.specs.Asking.{AsksForRequest}
 use Rattle.remote_calls.specs.Spelled.{request_for, bases_of, answered_by, seen_behind}
 use Rattle.remote_service.specs.declared.error.ServiceError.{ServiceError}
 use Rattle.remote_service.specs.declared.error.ServiceError.TheVariants as error
@@ -130,7 +131,13 @@ pub record WasMade {B : Type 0} (known : B → Known) (goes : B → Call → Ans
   pub step : Goes known goes b call answer d
   pub fault : is_fault answer ≡ by_fault
 
--- WHAT IS ANSWERED, by what the request means. For want of memory the one call may have been made or not.
+-- the client's next commit: its body is run anew before it is known whether it is malformed
+abbrev pub IsNext : Service → Request → Type 0
+IsNext s (request.Append seq body named) = seq ≡ s.seq
+IsNext s asked = ⊥
+
+-- WHAT IS ANSWERED, by what the request means. For want of memory the one call may have been made or not; and of what is malformed
+-- memory is asked for the client's next commit alone.
 abbrev pub Responds : {B : Type 0} → (B → Known) → (B → Call → Answer → B → Type 0)
     → Service → B → Request → Meaning → Result WireAnswer ServiceError → Service → B → Type 0
 Responds known goes s b asked Meaning.greeting (Ok answer) t d = Greeted known s b answer t d
@@ -139,7 +146,7 @@ Responds known goes s b asked (Meaning.calling call) (Err error.StoreFault) t d 
 Responds known goes s b asked (Meaning.calling call) (Err error.NoMemory) t d =
     IsUnchanged s b t d ⊎ WasMade known goes false b call d
 Responds known goes s b asked Meaning.malformed (Err error.Malformed) t d = IsUnchanged s b t d
-Responds known goes s b asked Meaning.malformed (Err error.NoMemory) t d = IsUnchanged s b t d
+Responds known goes s b asked Meaning.malformed (Err error.NoMemory) t d = IsNext s asked × IsUnchanged s b t d
 Responds known goes s b asked Meaning.greeting (Err error.NoMemory) t d = IsUnchanged s b t d
 Responds known goes s b asked m result t d = ⊥
 
@@ -210,7 +217,27 @@ abbrev pub HasStalled : {B : Type 0} → (B → Known) → (B → Call → Answe
     → Service → B → List ℕ → Service → B → Type 0
 HasStalled known goes s b bytes t d = IsUnchanged s b t d ⊎ MadeCall known goes false s b bytes d
 
+-- memory is asked for to answer a request that isn't malformed, and for the client's next commit
+abbrev pub AsksToAnswer : Service → Request → Meaning → Type 0
+AsksToAnswer s asked Meaning.malformed = IsNext s asked
+AsksToAnswer s asked m = Unit {0}
+
+-- the bytes are a request for which memory is asked, to answer it
+pub record AsksForAnAnswer (s : Service) (k : Known) (bytes : List ℕ) : Type 0 where
+  pub asked : Request
+  pub read : request_in bytes ≡ Some asked
+  pub asks : AsksToAnswer s asked (meaning s k asked)
+
+-- MEMORY IS WANTING ONLY WHERE IT IS ASKED FOR: to read the bytes as a request, or to answer the request that they are. So any other
+-- bytes that are malformed are refused as that.
+abbrev pub LacksOnlyAsked : {A : Type 0} → Service → Known → List ℕ → Result A ServiceError → Type 0
+LacksOnlyAsked s k bytes result = result ≡ Err error.NoMemory → AsksForRequest bytes ⊎ AsksForAnAnswer s k bytes
+
 -- ---- worked lines
+
+-- a shard that isn't there is refused, and not for want of memory
+asks-no_shard : (s : Service) (k : Known) → AsksToAnswer s (request.Prepare 4 []) Meaning.malformed ≡ ⊥
+asks-no_shard s k = refl
 
 -- a commit ends what was kept, and raises the seq; one that was refused leaves that
 kept_behind-commit : (s : Service) → (kept_behind s (request.Append 1 [] []) (given.Number 5)).snaps ≡ []

@@ -4,10 +4,12 @@ ghost use Rattle.std.specs.Prelude.{◌≡◌};
 ghost use Rattle.docc_prepare.specs.Attempts.{based, has_front as spec_has_front};
 ghost use Rattle.docc_prepare.specs.Serial.{is_observed};
 ghost use Rattle.remote_service.specs.Anew as spec;
-ghost use Rattle.remote_service.specs.code.Finds.{Finds};
+ghost use Rattle.remote_service.specs.code.Finds.{Finds, LacksOnly};
+ghost use Rattle.remote_service.specs.code.Refusing as exact;
 
 use crate::error::ServiceError;
 use crate::kept::{KeptFront, KeptSnap, front_kept, value_kept};
+use crate::refusing::found;
 use docc_prepare::Attempt;
 use journal_core::{FrontList, PreparedFront};
 use plain_data::copied;
@@ -21,15 +23,15 @@ use txn_lang::{Checked, Run, Seen, Snap, Snaps};
 
 /// The value that was given at a named base, unless its address was named before.
 fn named_value(kept: &[KeptSnap], snaps: &Snaps, named: &Base) -> Result<Value, ServiceError>
-    ensures { Finds (λ value. value) result (spec.named_value kept.now snaps.now named.now) }
+    ensures found { Finds (λ value. value) result (spec.named_value kept.now snaps.now named.now) }
+
+    // Memory is wanting only for a value that is there.
+    ensures memory { LacksOnly result (spec.named_value kept.now snaps.now named.now) }
 {
     if snaps.get(&named.address).is_some() {
         return Err(ServiceError::Malformed);
     }
-    match value_kept(kept, &named.address, named.base)? {
-        Some(value) => Ok(value),
-        None => Err(ServiceError::Malformed),
-    }
+    found(value_kept(kept, &named.address, named.base)?)
 }
 
 /// The values at the named bases.
@@ -75,6 +77,27 @@ fn are_observed(bases: &[Base], seen: &[Seen]) -> bool
     true
 }
 
+/// A run that is done, and none that needs a value which isn't named.
+fn finished(step: Step) -> Result<Run, ServiceError>
+    ensures { result ≡ exact.finished step }
+{
+    match step {
+        Step::Need(_address) => Err(ServiceError::Malformed),
+        Step::Done(run) => Ok(run),
+    }
+}
+
+/// A run that observed each address that is named.
+fn if_observed(bases: &[Base], run: Run) -> Result<Run, ServiceError>
+    ensures { result ≡ exact.if_observed bases.now run }
+{
+    if are_observed(bases, run.observations.as_slice()) {
+        Ok(run)
+    } else {
+        Err(ServiceError::Malformed)
+    }
+}
+
 /// The run of a body on the values at the named bases, where it is done and observed just these addresses.
 pub(crate) fn run_anew(
     alloc: Global,
@@ -84,15 +107,8 @@ pub(crate) fn run_anew(
 ) -> Result<Run, ServiceError>
     ensures { Finds (λ run. run) result (spec.run_anew body.now.body snaps.now bases.now) }
 {
-    let run = match run(alloc, body, snaps)? {
-        Step::Need(_address) => return Err(ServiceError::Malformed),
-        Step::Done(run) => run,
-    };
-    if are_observed(bases, run.observations.as_slice()) {
-        Ok(run)
-    } else {
-        Err(ServiceError::Malformed)
-    }
+    let run = finished(run(alloc, body, snaps)?)?;
+    if_observed(bases, run)
 }
 
 // ---- fronts
@@ -120,10 +136,7 @@ fn front_of(
     ensures { Finds (λ front. front) result (spec.front_in kept.now attempt.now.shards (based attempt.now.snaps run.now.observations) shard) }
 {
     let observed = attempt.based(alloc, run, shard)?;
-    match front_kept(kept, shard, &observed) {
-        Some(front) => Ok(front),
-        None => Err(ServiceError::Malformed),
-    }
+    found(front_kept(kept, shard, &observed))
 }
 
 /// The front of each shard in which a run observed something.

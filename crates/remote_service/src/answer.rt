@@ -4,13 +4,14 @@ ghost use Rattle.std.specs.Prelude.{◌≡◌, IfOk, Err};
 ghost use Rattle.remote_service.specs.declared.error.ServiceError.TheVariants as spec_error;
 ghost use Rattle.remote_service.specs.code.Told.{Spells};
 ghost use Rattle.remote_service.specs.Malformed.{IsMalformed};
-ghost use Rattle.remote_service.specs.Serving.{Serves, Answered, IsRefused, OnlyRefuses, HasFailed, HasStalled};
+ghost use Rattle.remote_service.specs.Serving.{Serves, Answered, IsRefused, OnlyRefuses, HasFailed, HasStalled, LacksOnlyAsked};
 
 use crate::error::ServiceError;
+use crate::refusing::of_wire;
 use crate::service::Service;
 use docc_prepare::Waiter;
 use plain_data::Text;
-use remote_wire::{WireAnswer, WireError, decode_request, encode_answer};
+use remote_wire::{WireAnswer, decode_request, encode_answer};
 use std::alloc::{AllocError, Global};
 
 /// The bytes of an answer, or why there is none.
@@ -50,14 +51,16 @@ impl Service {
         // For want of memory that call was made or not.
         ensures stalled { result ≡ Err spec_error.NoMemory → HasStalled B.known B.goes self.old backend.old request.now self.new backend.new }
 
+        // It is wanting only where it is asked for: what else is malformed is refused as that.
+        ensures memory { LacksOnlyAsked self.old (B.known backend.old) request.now result }
+
         // Whatever is answered, the service may be asked again.
         ensures serves { Serves self.new (B.known backend.new) }
         ensures home { B.home backend.new ≡ B.home backend.old }
     {
         let asked = match decode_request(alloc, request) {
             Ok(asked) => asked,
-            Err(WireError::BadWire) => return Err(ServiceError::Malformed),
-            Err(WireError::NoMemory) => return Err(ServiceError::NoMemory),
+            Err(error) => return Err(of_wire(error)),
         };
         let outcome = self.respond(alloc, backend, &asked);
         spelled(alloc, outcome)

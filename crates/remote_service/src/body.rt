@@ -1,17 +1,19 @@
 //! The text of a body that is to be committed.
 
-ghost use Rattle.std.specs.Prelude.{◌≡◌, IfOk};
+ghost use Rattle.std.specs.Prelude.{◌≡◌, false, Err, IfOk};
 ghost use Rattle.journal_core.specs.Bodies as bodies;
+ghost use Rattle.remote_service.specs.declared.error.ServiceError.TheVariants as errors;
 ghost use Rattle.remote_service.specs.Anew as spec;
 ghost use Rattle.remote_service.specs.code.Finds.{Finds};
 
 use crate::error::ServiceError;
+use crate::refusing::{of_check, of_parse};
 use dtext::is_blank;
 use journal_core::LONGEST_BODY;
 use plain_data::{Text, copied};
 use std::alloc::Global;
-use txn_lang::{CheckError, Checked, check};
-use txn_parse::{ParseError, parse};
+use txn_lang::{Checked, check};
+use txn_parse::parse;
 
 /// Whether the last byte is a blank.
 fn ends_in_blank(text: &[u8]) -> bool
@@ -34,19 +36,19 @@ fn is_body_text(text: &[u8]) -> bool
 pub(crate) fn body_of(alloc: Global, text: &Text) -> Result<Checked, ServiceError>
     ensures body { Finds (λ checked. checked.body) result (spec.body_of text.now) }
     ensures source { IfOk result (λ checked. checked.source ≡ text.now) }
+
+    // A text as no body is kept is malformed.
+    ensures unkept { spec.is_body_text text.now ≡ false → result ≡ Err errors.Malformed }
 {
     if !is_body_text(text.as_slice()) {
         return Err(ServiceError::Malformed);
     }
     let body = match parse(alloc, text.as_slice()) {
         Ok(body) => body,
-        Err(ParseError::Syntax(_column)) => return Err(ServiceError::Malformed),
-        Err(ParseError::NoMemory) => return Err(ServiceError::NoMemory),
+        Err(error) => return Err(of_parse(error)),
     };
     match check(alloc, body, copied(text)?, false) {
         Ok(checked) => Ok(checked),
-        Err(CheckError::BadType(_column)) => Err(ServiceError::Malformed),
-        Err(CheckError::Writes(_column)) => Err(ServiceError::Malformed),
-        Err(CheckError::NoMemory) => Err(ServiceError::NoMemory),
+        Err(error) => Err(of_check(error)),
     }
 }

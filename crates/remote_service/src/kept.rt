@@ -1,6 +1,6 @@
 //! What a service keeps of what its backend gave: values with their bases, and fronts.
 
-ghost use Rattle.std.specs.Prelude.{◌≡◌, IfOk};
+ghost use Rattle.std.specs.Prelude.{◌≡◌, true, is_some, IfOk, OnErr};
 ghost use Rattle.remote_service.specs.Keeping as spec;
 
 use abort_witness::BasedList;
@@ -37,7 +37,10 @@ pub(crate) fn value_kept(
     address: &Address,
     base: u64,
 ) -> Result<Option<Value>, AllocError>
-    ensures { IfOk result (λ found. found ≡ spec.value_kept kept.now address.now base) }
+    ensures found { IfOk result (λ found. found ≡ spec.value_kept kept.now address.now base) }
+
+    // Memory is wanting only for a value that is there.
+    ensures memory { OnErr result (is_some (spec.value_kept kept.now address.now base) ≡ true) }
 {
     for snap in kept {
         if is_at_base(address, base, snap) {

@@ -13,6 +13,7 @@ mod forms;
 mod handing;
 mod keeping;
 mod kept;
+mod refusing;
 mod responding;
 mod service;
 mod telling;

@@ -9,6 +9,7 @@ pub mod AnswerSpelling
 pub mod AnswerForms
 pub mod AnswerReading
 pub mod Answers
+pub mod Asking
 pub mod AnswerLaws
 pub mod AnswerExamples
 pub mod code

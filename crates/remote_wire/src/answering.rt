@@ -1,13 +1,17 @@
 //! Answers as bytes, and back.
 
-ghost use Rattle.std.specs.Prelude.{◌≡◌, ◌≤◌, ◌++◌, ◌∷◌, ℕ, length, Some, OnOk, IfOk};
+ghost use Rattle.std.specs.Prelude.{◌≡◌, ◌≢◌, ◌≤◌, ◌++◌, ◌∷◌, ℕ, true, length, Some, Err, OnOk, IfOk};
+ghost use Rattle.record_code.specs.declared.field_error.FieldError.TheVariants as errors;
 ghost use Rattle.record_code.specs.code.Reads.{Reads};
 ghost use Rattle.remote_wire.specs.declared.answer_limits.TheConstants.{LONGEST_ANSWER};
+ghost use Rattle.remote_wire.specs.declared.answer_tags.GivenTag.TheVariants as gifts;
 ghost use Rattle.remote_wire.specs.declared.request.Request.{Request};
+ghost use Rattle.remote_wire.specs.declared.wire_error.WireError.TheVariants as wire_errors;
 ghost use Rattle.remote_wire.specs.AnswerSpelling.{short_bytes, given_byte, given_parts, answer_bytes};
 ghost use Rattle.remote_wire.specs.AnswerForms.{IsFourBytes, IsGiven};
 ghost use Rattle.remote_wire.specs.Answers as spec;
 ghost use Rattle.remote_wire.specs.Answers.{given_of, given_feed_at, rest_at, answer_at, answer_in, IsAnswerTo};
+ghost use Rattle.remote_wire.specs.Asking.{gives_of, gives_rest, gives_at, AsksForAnswer};
 ghost use Rattle.remote_wire.specs.AnswerLaws.{HasAnswerSpelling};
 ghost use Rattle.remote_wire.specs.code.Decodes.{Decodes};
 
@@ -18,6 +22,7 @@ use crate::feeds::{feed_of, take_changes};
 use crate::part::{Part, put_byte, put_long, take_byte, within};
 use crate::request::Request;
 use crate::suiting::{given_tag, suits};
+use crate::telling::{of_field, only};
 use crate::wire_error::WireError;
 use abort_witness::Witness;
 use plain_data::Text;
@@ -119,7 +124,8 @@ pub fn encode_answer(alloc: Global, answer: &WireAnswer) -> Result<Text, AllocEr
 /// Reads a feed.
 #[tactic(auto, unfolding(record_code::specs::Fields::pair_at))]
 fn take_feed(alloc: Global, bytes: &[u8]) -> Result<(Given, &[u8]), FieldError>
-    ensures { Reads (λ read. (read.0, read.1.now)) result (given_feed_at bytes.now) }
+    ensures read { Reads (λ read. (read.0, read.1.now)) result (given_feed_at bytes.now) }
+    ensures memory { result ≡ Err errors.NoMemory → gives_of gifts.Feed bytes.now ≡ true }
 {
     let (to, rest) = read_u64(bytes)?;
     let (changes, rest) = take_changes(alloc, rest)?;
@@ -129,7 +135,8 @@ fn take_feed(alloc: Global, bytes: &[u8]) -> Result<(Given, &[u8]), FieldError>
 /// Reads what is given, by what it is.
 #[tactic(auto, unfolding(crate::specs::Answers::given_of, record_code::specs::Fields::pair_at))]
 fn take_parts(alloc: Global, gift: GivenTag, bytes: &[u8]) -> Result<(Given, &[u8]), FieldError>
-    ensures { Reads (λ read. (read.0, read.1.now)) result (given_of gift bytes.now) }
+    ensures read { Reads (λ read. (read.0, read.1.now)) result (given_of gift bytes.now) }
+    ensures memory { result ≡ Err errors.NoMemory → gives_of gift bytes.now ≡ true }
 {
     match gift {
         GivenTag::Hello => {
@@ -178,14 +185,16 @@ fn take_parts(alloc: Global, gift: GivenTag, bytes: &[u8]) -> Result<(Given, &[u
     }
 }
 
-/// The answer that gives this, where it suits.
+/// The answer that gives this, where it suits. What doesn't is never told as want of memory.
 fn suited<'a>(
     request: &Request,
     seen: u64,
     given: Given,
     rest: &'a [u8],
 ) -> Result<(WireAnswer, &'a [u8]), FieldError>
-    ensures { Reads (λ read. (read.0, read.1.now)) result (spec.suited request.now seen (given, rest.now)) }
+    ensures read { Reads (λ read. (read.0, read.1.now)) result
+        (spec.suited request.now seen (given, rest.now)) }
+    ensures told { result ≢ Err errors.NoMemory }
 {
     if suits(request, seen, &given) {
         Ok((WireAnswer { seen, given }, rest))
@@ -202,7 +211,8 @@ fn take_rest<'a>(
     tag: AnswerTag,
     bytes: &'a [u8],
 ) -> Result<(WireAnswer, &'a [u8]), FieldError>
-    ensures { Reads (λ read. (read.0, read.1.now)) result (rest_at request.now tag bytes.now) }
+    ensures read { Reads (λ read. (read.0, read.1.now)) result (rest_at request.now tag bytes.now) }
+    ensures memory { result ≡ Err errors.NoMemory → gives_rest request.now tag bytes.now ≡ true }
 {
     let (seen, rest) = read_u64(bytes)?;
     let Some(gift) = given_tag(request, tag) else {
@@ -219,7 +229,8 @@ fn take_answer<'a>(
     request: &Request,
     bytes: &'a [u8],
 ) -> Result<(WireAnswer, &'a [u8]), FieldError>
-    ensures { Reads (λ read. (read.0, read.1.now)) result (answer_at request.now bytes.now) }
+    ensures read { Reads (λ read. (read.0, read.1.now)) result (answer_at request.now bytes.now) }
+    ensures memory { result ≡ Err errors.NoMemory → gives_at request.now bytes.now ≡ true }
 {
     let (tag, rest) = read_tag(&ANSWER_TAGS, bytes)?;
     take_rest(alloc, request, tag, rest)
@@ -232,17 +243,16 @@ pub fn decode_answer(
     bytes: &[u8],
 ) -> Result<WireAnswer, WireError>
     // It is the one that they spell; and `BadWire` says that they spell none that is an answer to this request.
-    ensures { Decodes result (answer_in request.now bytes.now) }
+    ensures decoded { Decodes result (answer_in request.now bytes.now) }
+
+    // Memory is wanting only where it is asked for: what is refused before that is told as `BadWire`.
+    ensures memory { result ≡ Err wire_errors.NoMemory → AsksForAnswer request.now bytes.now }
 {
     if bytes.len() > LONGEST_ANSWER {
         return Err(WireError::BadWire);
     }
     match take_answer(alloc, request, bytes) {
-        Ok((answer, rest)) => match rest {
-            [] => Ok(answer),
-            [_, ..] => Err(WireError::BadWire),
-        },
-        Err(FieldError::Malformed) => Err(WireError::BadWire),
-        Err(FieldError::NoMemory) => Err(WireError::NoMemory),
+        Ok((answer, rest)) => only(answer, rest),
+        Err(error) => Err(of_field(error)),
     }
 }

@@ -19,6 +19,7 @@ mod request;
 mod requesting;
 mod suiting;
 mod tags;
+mod telling;
 mod values;
 mod wire_error;
 mod witnesses;

@@ -1,7 +1,8 @@
 //! The parts of requests and answers, and lists of such parts.
 
-ghost use Rattle.std.specs.Prelude.{◌≡◌, ◌≤◌, ◌++◌, ℕ, List, Option, OnOk, length};
+ghost use Rattle.std.specs.Prelude.{◌≡◌, ◌≢◌, ◌<◌, ◌≤◌, ◌++◌, ℕ, List, Option, Err, OnOk, OnErr, length};
 ghost use Rattle.std.specs.List.{flat_map, AllByRecursion};
+ghost use Rattle.record_code.specs.declared.field_error.FieldError.TheVariants as errors;
 ghost use Rattle.record_code.specs.Spelling.{list_bytes};
 ghost use Rattle.record_code.specs.Fields.{each_at, list_at};
 ghost use Rattle.record_code.specs.Room.{HaveRoom};
@@ -61,7 +62,8 @@ pub fn put_long(out: &mut Text, number: u64) -> Result<(), AllocError>
 /// Reads a number of one byte.
 #[tactic(auto, unfolding(crate::specs::Reading::byte_at))]
 pub fn take_byte(bytes: &[u8]) -> Result<(u8, &[u8]), FieldError>
-    ensures { Reads (λ read. (read.0, read.1.now)) result (byte_at bytes.now) }
+    ensures read { Reads (λ read. (read.0, read.1.now)) result (byte_at bytes.now) }
+    ensures told { result ≢ Err errors.NoMemory }
 {
     match bytes {
         [byte, rest @ ..] => Ok((*byte, rest)),
@@ -71,9 +73,10 @@ pub fn take_byte(bytes: &[u8]) -> Result<(u8, &[u8]), FieldError>
 
 // ---- texts and addresses
 
-/// Whether a text is no longer than it may be. One that is has no spelling.
+/// Whether a text is no longer than it may be. One that is has no spelling; and no other is told as that.
 pub fn within(text: &[u8], most: usize) -> Result<(), AllocError>
-    ensures { OnOk result (length text.now ≤ most) }
+    ensures short { OnOk result (length text.now ≤ most) }
+    ensures longer { OnErr result (most < length text.now) }
 {
     if text.len() <= most {
         Ok(())

@@ -1,12 +1,16 @@
 //! Requests as bytes, and back.
 
-ghost use Rattle.std.specs.Prelude.{◌≡◌, ◌≤◌, ◌++◌, ◌∷◌, ℕ, length, Some, OnOk, IfOk};
+ghost use Rattle.std.specs.Prelude.{◌≡◌, ◌≤◌, ◌++◌, ◌∷◌, ℕ, true, length, Some, Err, OnOk, IfOk};
+ghost use Rattle.record_code.specs.declared.field_error.FieldError.TheVariants as errors;
 ghost use Rattle.record_code.specs.Room.{HaveRoom};
 ghost use Rattle.record_code.specs.code.Reads.{Reads};
 ghost use Rattle.remote_wire.specs.declared.limits.TheConstants.{LONGEST_REQUEST};
+ghost use Rattle.remote_wire.specs.declared.tags.RequestTag.TheVariants as asked;
+ghost use Rattle.remote_wire.specs.declared.wire_error.WireError.TheVariants as wire_errors;
 ghost use Rattle.remote_wire.specs.Spelling.{body_parts, append_parts, request_byte, request_parts, request_bytes};
 ghost use Rattle.remote_wire.specs.Forms.{IsBase, IsAppend, IsRequest};
 ghost use Rattle.remote_wire.specs.Requests.{prepare_at, append_at, request_of, request_at, request_in};
+ghost use Rattle.remote_wire.specs.Asking.{asks_of, asks_at, AsksForRequest};
 ghost use Rattle.remote_wire.specs.Laws.{HasSpelling};
 ghost use Rattle.remote_wire.specs.code.Decodes.{Decodes};
 
@@ -14,6 +18,7 @@ use crate::limits::LONGEST_REQUEST;
 use crate::part::{Part, put_byte, put_list, put_long, take_byte, take_list, within};
 use crate::request::{Base, BaseList, Request};
 use crate::tags::{REQUEST_TAGS, RequestTag};
+use crate::telling::{of_field, only};
 use crate::wire_error::WireError;
 use abort_witness::{Based, BasedList};
 use journal_core::LONGEST_BODY;
@@ -114,7 +119,8 @@ pub fn encode_request(alloc: Global, request: &Request) -> Result<Text, AllocErr
 /// Reads a shard and what was observed in it.
 #[tactic(auto, unfolding(record_code::specs::Fields::pair_at))]
 fn take_prepare(alloc: Global, bytes: &[u8]) -> Result<(Request, &[u8]), FieldError>
-    ensures { Reads (λ read. (read.0, read.1.now)) result (prepare_at bytes.now) }
+    ensures read { Reads (λ read. (read.0, read.1.now)) result (prepare_at bytes.now) }
+    ensures memory { result ≡ Err errors.NoMemory → asks_of asked.Prepare bytes.now ≡ true }
 {
     let (shard, rest) = take_byte(bytes)?;
     let (observed, rest) = take_list::<Based>(alloc, rest)?;
@@ -124,7 +130,8 @@ fn take_prepare(alloc: Global, bytes: &[u8]) -> Result<(Request, &[u8]), FieldEr
 /// Reads the number of a commit, the text of its body, and the bases.
 #[tactic(auto, unfolding(record_code::specs::Fields::pair_at))]
 fn take_append(alloc: Global, bytes: &[u8]) -> Result<(Request, &[u8]), FieldError>
-    ensures { Reads (λ read. (read.0, read.1.now)) result (append_at bytes.now) }
+    ensures read { Reads (λ read. (read.0, read.1.now)) result (append_at bytes.now) }
+    ensures memory { result ≡ Err errors.NoMemory → asks_of asked.Append bytes.now ≡ true }
 {
     let (seq, rest) = read_u64(bytes)?;
     let (body, rest) = read_text(alloc, LONGEST_BODY, rest)?;
@@ -135,7 +142,8 @@ fn take_append(alloc: Global, bytes: &[u8]) -> Result<(Request, &[u8]), FieldErr
 /// Reads what a request names.
 #[tactic(auto, unfolding(crate::specs::Requests::request_of, record_code::specs::Fields::pair_at))]
 fn take_parts(alloc: Global, tag: RequestTag, bytes: &[u8]) -> Result<(Request, &[u8]), FieldError>
-    ensures { Reads (λ read. (read.0, read.1.now)) result (request_of tag bytes.now) }
+    ensures read { Reads (λ read. (read.0, read.1.now)) result (request_of tag bytes.now) }
+    ensures memory { result ≡ Err errors.NoMemory → asks_of tag bytes.now ≡ true }
 {
     match tag {
         RequestTag::Nothing => Err(FieldError::Malformed),
@@ -168,7 +176,8 @@ fn take_parts(alloc: Global, tag: RequestTag, bytes: &[u8]) -> Result<(Request, 
 /// Reads a request from the front of bytes.
 #[tactic(auto, unfolding(crate::specs::Requests::request_at))]
 fn take_request(alloc: Global, bytes: &[u8]) -> Result<(Request, &[u8]), FieldError>
-    ensures { Reads (λ read. (read.0, read.1.now)) result (request_at bytes.now) }
+    ensures read { Reads (λ read. (read.0, read.1.now)) result (request_at bytes.now) }
+    ensures memory { result ≡ Err errors.NoMemory → asks_at bytes.now ≡ true }
 {
     let (tag, rest) = read_tag(&REQUEST_TAGS, bytes)?;
     take_parts(alloc, tag, rest)
@@ -177,17 +186,16 @@ fn take_request(alloc: Global, bytes: &[u8]) -> Result<(Request, &[u8]), FieldEr
 /// The request that the bytes are, all of them. They are read alone, and memory is taken for what was read.
 pub fn decode_request(alloc: Global, bytes: &[u8]) -> Result<Request, WireError>
     // It is the one that they spell; and `BadWire` says that they spell none.
-    ensures { Decodes result (request_in bytes.now) }
+    ensures decoded { Decodes result (request_in bytes.now) }
+
+    // Memory is wanting only where it is asked for: what is refused before that is told as `BadWire`.
+    ensures memory { result ≡ Err wire_errors.NoMemory → AsksForRequest bytes.now }
 {
     if bytes.len() > LONGEST_REQUEST {
         return Err(WireError::BadWire);
     }
     match take_request(alloc, bytes) {
-        Ok((request, rest)) => match rest {
-            [] => Ok(request),
-            [_, ..] => Err(WireError::BadWire),
-        },
-        Err(FieldError::Malformed) => Err(WireError::BadWire),
-        Err(FieldError::NoMemory) => Err(WireError::NoMemory),
+        Ok((request, rest)) => only(request, rest),
+        Err(error) => Err(of_field(error)),
     }
 }

@@ -74,25 +74,9 @@ fn the_lines_of_a_session_are_the_same_in_pieces_of_any_size(rt: HostRuntime) {
     }
 }
 
-/// Whether moves go as they should, with this held in the middle, and that at the end.
-fn hold(
-    alloc: Global,
-    link: Result<BufferedLink<MemLink>, AllocError>,
-    first: &[Move],
-    middle: &[u8],
-    second: &[Move],
-    end: &[u8],
-) -> bool {
-    match link {
-        Ok(mut link) => {
-            link.held().is_empty()
-                && all_go(alloc, &mut link, first)
-                && link.held() == middle
-                && all_go(alloc, &mut link, second)
-                && link.held() == end
-        }
-        Err(_) => false,
-    }
+/// Whether moves go as they should, with this held at their end.
+fn hold(alloc: Global, link: &mut BufferedLink<MemLink>, moves: &[Move], held: &[u8]) -> bool {
+    all_go(alloc, link, moves) && link.held() == held
 }
 
 /// A link, the moves that are made with it, and what it holds between two lists of them and at the end.
@@ -180,8 +164,14 @@ fn rows() -> &'static [Row] {
 
 /// Whether a row goes as it should.
 fn holds(alloc: Global, row: &Row) -> bool {
-    let link = ahead(alloc, row.bytes, row.piece.max(1), row.reads, &[]);
-    hold(alloc, link, row.first, row.middle, row.second, row.end)
+    match ahead(alloc, row.bytes, row.piece.max(1), row.reads, &[]) {
+        Ok(mut link) => {
+            link.held().is_empty()
+                && hold(alloc, &mut link, row.first, row.middle)
+                && hold(alloc, &mut link, row.second, row.end)
+        }
+        Err(_) => false,
+    }
 }
 
 #[test]

@@ -14,29 +14,29 @@ use Rattle.client_watches.proofs.running.first_run.Goals as goal
 pub returns-in_ok-keep-clause-keeps : goal.returns-in_ok-keep-clause-keeps
 returns-in_ok-keep-clause-keeps g c =
     subst (Keeps (g.B.Backend.known c.run_body.new.backend)) (sym c.in_ok-keep.ensures.watching)
-    (keeps-first (g.B.Backend.known c.run_body.new.backend) c.run_body.new.watching c.in_ok-run.ensures.keeps c.args.name c.args.body c.in-Some.run'
-    (ap (λ (ws : Watches). watch_of ws c.args.name) c.in_ok-run.ensures.watches ∙ c.requires.free)
-    (subst (λ (o : Option Run). IfSome o (HasRun c.args.body c.run_body.new.watching)) c.in-Some.is
+    (keeps-first (g.B.Backend.known c.run_body.new.backend) c.run_body.new.watching c.in_ok-run.ensures.keeps c.args.new_watch.name c.args.new_watch.body c.in-Some.run'
+    (ap (λ (ws : Watches). watch_of ws c.args.new_watch.name) c.in_ok-run.ensures.watches ∙ c.requires.free)
+    (subst (λ (o : Option Run). IfSome o (HasRun c.args.new_watch.body c.run_body.new.watching)) c.in-Some.is
     c.in_ok-run.ensures.done))
 
 pub returns-in_err-run-clause-plays : goal.returns-in_err-run-clause-plays
 returns-in_err-run-clause-plays g c =
     fails _ c.from_residual.result c.from_residual.ensures.1
-    (stops_in (λ found. Program.ends (made c.args.name c.args.body found)) c.in_err-run.ensures.plays)
+    (stops_in (λ found. Program.ends (made c.args.new_watch.name c.args.new_watch.body found)) c.in_err-run.ensures.plays)
 
 pub returns-in_err-keep-clause-plays : goal.returns-in_err-keep-clause-plays
 returns-in_err-keep-clause-plays g c =
     fails _ c.from_residual-in_err-keep.result c.from_residual-in_err-keep.ensures.1
-    (wants (in_bind (λ found. Program.ends (made c.args.name c.args.body found)) c.in_ok-run.ensures.plays))
+    (wants (in_bind (λ found. Program.ends (made c.args.new_watch.name c.args.new_watch.body found)) c.in_ok-run.ensures.plays))
 
 pub returns-in_ok-keep-clause-plays : goal.returns-in_ok-keep-clause-plays
 returns-in_ok-keep-clause-plays g c =
-    bound (λ found. Program.ends (made c.args.name c.args.body found)) c.in_ok-run.ensures.plays
-    (here (ap (λ o. Program.ends (made c.args.name c.args.body (o, c.run_body.new.watching, c.run_body.new.said))) c.in-Some.is
+    bound (λ found. Program.ends (made c.args.new_watch.name c.args.new_watch.body found)) c.in_ok-run.ensures.plays
+    (here (ap (λ o. Program.ends (made c.args.new_watch.name c.args.new_watch.body (o, c.run_body.new.watching, c.run_body.new.said))) c.in-Some.is
     ∙ (λ i. Program.ends (sym c.in_ok-keep.ensures.watching i, sym c.in_ok-keep.ensures.said i))))
 
 pub returns-in_default-clause-plays : goal.returns-in_default-clause-plays
 returns-in_default-clause-plays g c =
-    bound (λ found. Program.ends (made c.args.name c.args.body found)) c.in_ok-run.ensures.plays
-    (here (ap (λ o. Program.ends (made c.args.name c.args.body (o, c.run_body.new.watching, c.run_body.new.said)))
+    bound (λ found. Program.ends (made c.args.new_watch.name c.args.new_watch.body found)) c.in_ok-run.ensures.plays
+    (here (ap (λ o. Program.ends (made c.args.new_watch.name c.args.new_watch.body (o, c.run_body.new.watching, c.run_body.new.said)))
     (none-else _ c.in_default.not-Some)))

@@ -54,7 +54,7 @@ invariant_of-self c =
     c.args.client c.requires.client c.args.shard c.args.based.now c.index-here.result.now
     (subst (λ (o : Stored). CanPrepare (known_by (store_of o) c.args.client) c.args.shard c.args.based.now)
     (sym c.self.view_is) c.requires.can) c.index-here.ensures (front_answered c.in-Ok.answer) c.set.new.self c.as_slice.result.now
-    c.as_slice.ensures c.in-Ok.ensures (c.set.ensures ∙ ap (set c.self.inside.seens c.args.client) c.max.ensures
+    c.as_slice.ensures c.in-Ok.ensures.answer (c.set.ensures ∙ ap (set c.self.inside.seens c.args.client) c.max.ensures
     ∙ ap (λ (n : ℕ). set c.self.inside.seens c.args.client (max n c.front-front.result))
     (ap (λ ns. get_or ns c.args.client 0) c.as_slice-2.ensures) ∙ ap (λ (n : ℕ). set c.self.inside.seens c.args.client
     (max (get_or c.self.inside.seens c.args.client 0) n)) c.front-front.ensures))
@@ -70,7 +70,7 @@ returns c =
     c.self.invariant c.args.client c.requires.client c.args.shard c.args.based.now c.index-here.result.now
     (subst (λ (o : Stored). CanPrepare (known_by (store_of o) c.args.client) c.args.shard c.args.based.now)
     (sym c.self.view_is) c.requires.can) c.index-here.ensures (front_answered c.in-Ok.answer) c.set.new.self c.as_slice.result.now
-    c.as_slice.ensures c.in-Ok.ensures (c.set.ensures ∙ ap (set c.self.inside.seens c.args.client) c.max.ensures
+    c.as_slice.ensures c.in-Ok.ensures.answer (c.set.ensures ∙ ap (set c.self.inside.seens c.args.client) c.max.ensures
     ∙ ap (λ (n : ℕ). set c.self.inside.seens c.args.client (max n c.front-front.result))
     (ap (λ ns. get_or ns c.args.client 0) c.as_slice-2.ensures) ∙ ap (λ (n : ℕ). set c.self.inside.seens c.args.client
     (max (get_or c.self.inside.seens c.args.client 0) n)) c.front-front.ensures))
