@@ -34,7 +34,7 @@ use Rattle.reactive_registry.proofs.Clients.{one_stands, all_stand}
 use Rattle.docc_prepare.proofs.Feeding.{fed-is-pending}
 use Rattle.local_world.proofs.SamePairs.{same_pairs}
 use Rattle.local_world.proofs.Registries.{none-rising, rising-with_changes}
-use Rattle.diamond_store.specs.Feeders.{Tells, taken_of, feed_between}
+use Rattle.diamond_store.specs.Feeders.{Tells, HasNobody, taken_of, feed_between}
 use Rattle.diamond_store.specs.Passes.{is_in}
 use Rattle.journal_relay.proofs.Prefixes.{length-prefix}
 use Rattle.journal_relay.proofs.Relaying.{changes-first, changes-split}
@@ -122,6 +122,10 @@ tells-empty journal front within = record {
             → AllByRecursion (λ (change : Change). change.number ≤ front) (cond b (c ∷ up_to front cs) (up_to front cs))
         by true e rest = (grind (arith, nat_tests), rest)
         by false e rest = rest
+
+-- nobody has entered one that is empty
+pub nobody-in-empty : (front : ℕ) → HasNobody (empty front)
+nobody-in-empty front client = refl
 
 -- ---- one client
 

@@ -1,5 +1,5 @@
 -- What a shard answers, said of the journal whose first commits it holds.
-use Rattle.std.proofs.Common.{◌≡◌, ℕ, ◌≤◌, List, length, take, Some, Ok, Err}
+use Rattle.std.proofs.Common.{◌≡◌, ℕ, ◌≤◌, List, length, take, Some, Result, Ok, Err, IfOk, OnErr}
 use Rattle.std.proofs.Common.{◌∙◌, arith}
 use Rattle.std.specs.List.{AllByRecursion}
 use Rattle.std.proofs.lemmas.List.{length-take}
@@ -12,8 +12,10 @@ use Rattle.txn_lang.specs.States.{Journal}
 use Rattle.journal_core.specs.Pairs.{pairs}
 use Rattle.version_shard.specs.Shards.{Sharded, horizon}
 use Rattle.version_shard.specs.Standing.{Holds}
+use Rattle.version_shard.specs.declared.at_error.AtError.{AtError}
 use Rattle.version_shard.specs.declared.at_error.AtError.TheVariants as at_error
 use Rattle.version_shard.specs.declared.prepared.Prepared.{Prepared}
+use Rattle.version_shard.specs.declared.prepared.Refusal.{Refusal}
 use Rattle.version_shard.specs.declared.prepared.Refusal.TheVariants as refusal
 use Rattle.version_shard.specs.Validating.{NamesLeast, ReadsAt, Validates}
 use Rattle.docc_prepare.specs.declared.backend.PrepareError.TheVariants as prepare_error
@@ -25,7 +27,8 @@ use Rattle.docc_prepare.proofs.Witnessed.{orderly-front, witness-of-front, witne
 use Rattle.local_world.proofs.Holding.{state-first}
 use Rattle.local_world.proofs.Naming.{named-by-shard}
 use Rattle.diamond_store.specs.Following.{IsSound}
-use Rattle.diamond_store.specs.Reading.{Finds, ReadsBack}
+use Rattle.local_world.specs.Answering.{value_told, WantsWitness}
+use Rattle.diamond_store.specs.Reading.{Finds, ReadsBack, IfWanted, front_told}
 
 -- ---- clashes
 
@@ -78,3 +81,36 @@ back-late journal s a n asked least within reads =
     let below = reads.0 in
     let at = reads.2 in
     (reads.1, omega arith, omega arith)
+
+-- so what is told of the shard's answer is what is so of the journal
+pub back-told : (journal : Journal) (s : Sharded) (a : Address) (n : ℕ) → n ≤ s.front → s.front ≤ length journal → (r : Result Value AtError)
+    → ReadsAt (take s.front journal) s a n r → IfOk (value_told r) (ReadsBack journal s.window a n)
+back-told journal s a n below within (Ok value) reads = back-value journal s a n value below reads
+back-told journal s a n below within (Err (at_error.Late asked least)) reads = back-late journal s a n asked least within reads
+back-told journal s a n below within (Err at_error.NoMemory) reads = tt
+
+-- and where memory is wanted it isn't late
+pub back-wanted : (journal : Journal) (s : Sharded) (a : Address) (n : ℕ) (r : Result Value AtError) → ReadsAt journal s a n r
+    → OnErr (value_told r) (horizon s ≤ n)
+back-wanted journal s a n (Ok value) reads = tt
+back-wanted journal s a n (Err (at_error.Late asked least)) reads = tt
+back-wanted journal s a n (Err at_error.NoMemory) reads = reads
+
+-- ---- what is told of what it finds
+
+-- it is what is so of the journal
+pub found-told : (m : ℕ) (journal : Journal) → IsSound m journal → (s : Sharded) → Holds (take s.front journal) s → s.front ≤ length journal
+    → (bs : List Based) → AllByRecursion IsBasedOfOneKind bs → AllByRecursion (λ b. b.base ≤ s.front) bs → (r : Result Prepared Refusal)
+    → Validates (take s.front journal) s bs r → Finds journal s.window s.number bs s.front (front_told r)
+found-told m journal sound s holds within bs kinds bases (Ok p) v = found-front m journal s bs p bases v
+found-told m journal sound s holds within bs kinds bases (Err (refusal.Late base least)) v = found-late journal s bs base least within v
+found-told m journal sound s holds within bs kinds bases (Err (refusal.Clash w)) v = found-clash m journal sound s holds within bs kinds w v
+found-told m journal sound s holds within bs kinds bases (Err refusal.NoMemory) v = tt
+
+-- and memory is wanted for the witness of a clash alone
+pub found-wanted : (journal : Journal) (s : Sharded) (bs : List Based) (r : Result Prepared Refusal) → Validates (take s.front journal) s bs r
+    → IfWanted (front_told r) (WantsWitness journal s bs)
+found-wanted journal s bs (Ok p) v = tt
+found-wanted journal s bs (Err (refusal.Late base least)) v = tt
+found-wanted journal s bs (Err (refusal.Clash w)) v = tt
+found-wanted journal s bs (Err refusal.NoMemory) v = v

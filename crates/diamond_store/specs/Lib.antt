@@ -1,5 +1,6 @@
 pub mod Following
 pub mod Numbers
+pub mod Spans
 pub mod Settling
 pub mod Books
 pub mod Decided

@@ -5,15 +5,15 @@ ghost use mathlib.Core.List.{IsPrefix};
 ghost use Rattle.plain_data.specs.Histories.{IsLawful};
 ghost use Rattle.history_lock.specs.Entries.{AddsOwn};
 ghost use Rattle.history_lock.specs.Tokens.{IsCurrent, IsLater};
-ghost use Rattle.journal_core.specs.Changes.{changes, between, of_address, of_shard};
-ghost use Rattle.journal_core.specs.Tails.{HasAll};
 ghost use Rattle.journal_relay.specs.Relays.{Relays, IsNextOf};
 ghost use Rattle.diamond_store.specs.Appending.{client_of};
 ghost use Rattle.diamond_store.specs.Books.{numbers};
 ghost use Rattle.diamond_store.specs.Following.{Follows};
-ghost use Rattle.diamond_store.specs.Numbers.{shards_in, HasSettings};
+ghost use Rattle.diamond_store.specs.Numbers.{window_in, HasSettings};
+ghost use Rattle.diamond_store.specs.Spans.{HasBetween, HasSpan, HasSpanInShard, HasSpanAt, IfFound};
 
 use crate::book::Book;
+use crate::span::Span;
 use change_feed::Tail;
 use history_lock::{Front, HistoryGuard, HistoryLock, Naming, Stands};
 use journal_core::Keep;
@@ -46,22 +46,36 @@ impl<K: Keep, N: Naming> Model for RelayPost<K, N> {
     ghost invariant = { λ p. Relays p.token.seen p.relay };
 }
 
-/// All changes of commits past one number and up to another, taken under the journal's lock.
+/// A token tells another what it knows.
+pub(crate) fn teach<K: Keep, N: Naming>(
+    journal: &HistoryLock<Book<K>, N>,
+    token: &mut Front<Book<K>, N>,
+    other: &mut Front<Book<K>, N>,
+)
+    ensures same { token.new ≡ token.old }
+    ensures later { IsLater client_of other.old other.new }
+    ensures lawful { IsLawful Follows N.lock.base other.new.seen }
+    ensures begins { IsPrefix other.old.seen other.new.seen }
+    ensures knows { IsPrefix token.old.seen other.new.seen }
+{
+    let copy = journal.split(token);
+    journal.meet(other, copy);
+}
+
+/// All changes of a span, taken under the journal's lock.
 fn locked_changes<K: Keep, N: Naming, R: Wait>(
     rt: &R,
     journal: &HistoryLock<Book<K>, N>,
     token: &mut Front<Book<K>, N>,
-    from: u64,
-    to: u64,
+    span: Span,
 ) -> Result<Tail, AllocError>
-    requires order { from ≤ to }
-    requires within { to ≤ length token.old.seen }
+    requires within { span.to ≤ length token.old.seen }
     ensures later { IsLater client_of token.old token.new }
     ensures lawful { IsLawful Follows N.lock.base token.new.seen }
-    ensures tail { IfOk result (HasAll from to (between from to (changes token.new.seen))) }
+    ensures tail { IfOk result (HasSpan span token.new.seen) }
 {
     let guard = journal.enter(rt, token);
-    let tail = guard.value.tail_all(from, to);
+    let tail = guard.value.tail_all(span.from, span.to);
     journal.leave(rt, token, guard);
     tail
 }
@@ -72,17 +86,15 @@ fn locked_in_shard<K: Keep, N: Naming, R: Wait>(
     journal: &HistoryLock<Book<K>, N>,
     token: &mut Front<Book<K>, N>,
     place: u8,
-    from: u64,
-    to: u64,
+    span: Span,
 ) -> Result<Tail, AllocError>
-    requires order { from ≤ to }
-    requires within { to ≤ length token.old.seen }
+    requires within { span.to ≤ length token.old.seen }
     ensures later { IsLater client_of token.old token.new }
     ensures lawful { IsLawful Follows N.lock.base token.new.seen }
-    ensures tail { IfOk result (HasAll from to (of_shard (shards_in N.lock.origin) place (between from to (changes token.new.seen)))) }
+    ensures tail { IfOk result (HasSpanInShard N.lock.origin place span token.new.seen) }
 {
     let guard = journal.enter(rt, token);
-    let tail = guard.value.tail(place, from, to);
+    let tail = guard.value.tail(place, span.from, span.to);
     journal.leave(rt, token, guard);
     tail
 }
@@ -93,17 +105,15 @@ fn locked_at<K: Keep, N: Naming, R: Wait>(
     journal: &HistoryLock<Book<K>, N>,
     token: &mut Front<Book<K>, N>,
     address: &Address,
-    from: u64,
-    to: u64,
+    span: Span,
 ) -> Result<Tail, AllocError>
-    requires order { from ≤ to }
-    requires within { to ≤ length token.old.seen }
+    requires within { span.to ≤ length token.old.seen }
     ensures later { IsLater client_of token.old token.new }
     ensures lawful { IsLawful Follows N.lock.base token.new.seen }
-    ensures tail { IfOk result (HasAll from to (of_address address.now (between from to (changes token.new.seen)))) }
+    ensures tail { IfOk result (HasSpanAt address.now span token.new.seen) }
 {
     let guard = journal.enter(rt, token);
-    let tail = guard.value.tail_at(address, from, to);
+    let tail = guard.value.tail_at(address, span.from, span.to);
     journal.leave(rt, token, guard);
     tail
 }
@@ -123,14 +133,15 @@ fn advance<K: Keep, N: Naming, R: Wait>(
     ensures relays { Relays token.new.seen relay.new }
     ensures ok { OnOk result (relay.new.to ≡ to) }
 {
-    let tail = locked_changes(rt, journal, token, relay.to(), to)?;
+    let from = relay.to();
+    let tail = locked_changes(rt, journal, token, Span { from, to })?;
     relay.follow(&tail)
 }
 
 /// The changes of a book's commits past a number, where there are such commits and there is memory.
 fn untold<K: Keep>(book: &Book<K>, from: u64) -> Option<Tail>
     ensures reached { IfSome result (λ tail. tail.to ≤ length book.now.journal.commits) }
-    ensures tail { IfSome result (λ tail. HasAll from tail.to (between from tail.to (changes book.now.journal.commits)) tail) }
+    ensures tail { IfSome result (λ tail. HasBetween from tail.to book.now.journal.commits tail) }
 {
     let to = book.entries();
     if to <= from {
@@ -167,25 +178,22 @@ impl<K: Keep, N: Naming> RelayPost<K, N> {
         self.relay.to()
     }
 
-    /// The relay's changes between two numbers, where it has come as far. The other token learns what the relay's knows.
+    /// The relay's changes of a span, where it has come as far. The other token learns what the relay's knows.
     fn tail(
         &mut self,
         journal: &HistoryLock<Book<K>, N>,
         other: &mut Front<Book<K>, N>,
-        from: u64,
-        to: u64,
+        span: Span,
     ) -> Result<Option<Tail>, AllocError>
-        requires { from ≤ to }
         ensures later { IsLater client_of other.old other.new }
         ensures lawful { IsLawful Follows N.lock.base other.new.seen }
-        ensures tail { IfOk result (λ found. IfSome found (HasAll from to (between from to (changes other.new.seen)))) }
+        ensures tail { IfFound result (HasSpan span other.new.seen) }
     {
-        let copy = journal.split(&mut self.token);
-        journal.meet(other, copy);
-        if self.relay.to() < to {
+        teach(journal, &mut self.token, other);
+        if self.relay.to() < span.to {
             return Ok(None);
         }
-        let tail = self.relay.tail_all(from, to)?;
+        let tail = self.relay.tail_all(span.from, span.to)?;
         Ok(Some(tail))
     }
 
@@ -200,8 +208,7 @@ impl<K: Keep, N: Naming> RelayPost<K, N> {
         ensures same { other.new ≡ other.old }
         ensures ok { OnOk result (self.new.to ≡ tail.now.to) }
     {
-        let copy = journal.split(other);
-        journal.meet(&mut self.token, copy);
+        teach(journal, other, &mut self.token);
         self.relay.follow(tail)
     }
 }
@@ -212,7 +219,7 @@ impl<K: Keep, N: Naming> RelayPost<K, N> {
 /// The relay's lock is taken by whoever has the journal's, a shard's or the registry's, and no other is taken with it.
 #[derive(Drop)]
 pub(crate) struct History<K: Keep, N: Naming> {
-    alloc: Global,
+    pub(crate) alloc: Global,
     settings: Settings,
     pub(crate) journal: HistoryLock<Book<K>, N>,
     relay: Option<Mutex<RelayPost<K, N>>>,
@@ -307,43 +314,46 @@ impl<K: Keep, N: Naming> History<K, N> {
         }
     }
 
-    /// What the relay has of the changes between two numbers, where there is one that has come as far.
+    /// The window of the store's settings.
+    pub(crate) fn window(&self) -> u16
+        ensures { result ≡ window_in N.lock.origin }
+    {
+        self.settings.window
+    }
+
+    /// What the relay has of the changes of a span, where there is one that has come as far.
     fn relayed<R: Wait>(
         &self,
         rt: &R,
         token: &mut Front<Book<K>, N>,
-        from: u64,
-        to: u64,
+        span: Span,
     ) -> Result<Option<Tail>, AllocError>
-        requires { from ≤ to }
         ensures later { IsLater client_of token.old token.new }
         ensures lawful { IsLawful Follows N.lock.base token.new.seen }
-        ensures tail { IfOk result (λ found. IfSome found (HasAll from to (between from to (changes token.new.seen)))) }
+        ensures tail { IfFound result (HasSpan span token.new.seen) }
     {
         let _known = token.count();
         let Some(relay) = &self.relay else {
             return Ok(None);
         };
-        relay.lock(rt).tail(&self.journal, token, from, to)
+        relay.lock(rt).tail(&self.journal, token, span)
     }
 
-    /// All changes of commits past one number and up to another. The journal's lock is taken where the relay doesn't have them.
+    /// All changes of a span. The journal's lock is taken where the relay doesn't have them.
     pub(crate) fn tail_all<R: Wait>(
         &self,
         rt: &R,
         token: &mut Front<Book<K>, N>,
-        from: u64,
-        to: u64,
+        span: Span,
     ) -> Result<Tail, AllocError>
-        requires order { from ≤ to }
-        requires within { to ≤ length token.old.seen }
+        requires within { span.to ≤ length token.old.seen }
         ensures later { IsLater client_of token.old token.new }
         ensures lawful { IsLawful Follows N.lock.base token.new.seen }
-        ensures tail { IfOk result (HasAll from to (between from to (changes token.new.seen))) }
+        ensures tail { IfOk result (HasSpan span token.new.seen) }
     {
-        match self.relayed(rt, token, from, to)? {
+        match self.relayed(rt, token, span)? {
             Some(tail) => Ok(tail),
-            None => locked_changes(rt, &self.journal, token, from, to),
+            None => locked_changes(rt, &self.journal, token, span),
         }
     }
 
@@ -353,18 +363,16 @@ impl<K: Keep, N: Naming> History<K, N> {
         rt: &R,
         token: &mut Front<Book<K>, N>,
         place: u8,
-        from: u64,
-        to: u64,
+        span: Span,
     ) -> Result<Tail, AllocError>
-        requires order { from ≤ to }
-        requires within { to ≤ length token.old.seen }
+        requires within { span.to ≤ length token.old.seen }
         ensures later { IsLater client_of token.old token.new }
         ensures lawful { IsLawful Follows N.lock.base token.new.seen }
-        ensures tail { IfOk result (HasAll from to (of_shard (shards_in N.lock.origin) place (between from to (changes token.new.seen)))) }
+        ensures tail { IfOk result (HasSpanInShard N.lock.origin place span token.new.seen) }
     {
-        match self.relayed(rt, token, from, to)? {
+        match self.relayed(rt, token, span)? {
             Some(all) => part_in_shard(self.alloc, &all, self.settings.shards, place),
-            None => locked_in_shard(rt, &self.journal, token, place, from, to),
+            None => locked_in_shard(rt, &self.journal, token, place, span),
         }
     }
 
@@ -374,18 +382,16 @@ impl<K: Keep, N: Naming> History<K, N> {
         rt: &R,
         token: &mut Front<Book<K>, N>,
         address: &Address,
-        from: u64,
-        to: u64,
+        span: Span,
     ) -> Result<Tail, AllocError>
-        requires order { from ≤ to }
-        requires within { to ≤ length token.old.seen }
+        requires within { span.to ≤ length token.old.seen }
         ensures later { IsLater client_of token.old token.new }
         ensures lawful { IsLawful Follows N.lock.base token.new.seen }
-        ensures tail { IfOk result (HasAll from to (of_address address.now (between from to (changes token.new.seen)))) }
+        ensures tail { IfOk result (HasSpanAt address.now span token.new.seen) }
     {
-        match self.relayed(rt, token, from, to)? {
+        match self.relayed(rt, token, span)? {
             Some(all) => part_at(self.alloc, &all, address),
-            None => locked_at(rt, &self.journal, token, address, from, to),
+            None => locked_at(rt, &self.journal, token, address, span),
         }
     }
 }

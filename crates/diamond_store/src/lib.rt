@@ -19,6 +19,7 @@ mod opening;
 mod pass;
 mod replica;
 mod served;
+mod span;
 mod store;
 mod telling;
 mod waiting;

@@ -1,24 +1,26 @@
 //! What stands behind the lock of a shard: the shard, and a token that has seen at least the commits that it holds.
 
-ghost use Rattle.std.specs.Prelude.{◌≡◌, ◌≤◌, ◌<◌, ℕ, List, length, max, take, IfOk, OnOk};
+ghost use Rattle.std.specs.Prelude.{◌≡◌, ◌≤◌, ◌<◌, ℕ, List, length, max, IfOk, OnOk, OnErr};
 ghost use Rattle.std.specs.List.{AllByRecursion};
 ghost use Rattle.abort_witness.specs.Kinds.{IsBasedOfOneKind};
 ghost use Rattle.plain_data.specs.Histories.{IsLawful};
 ghost use Rattle.history_lock.specs.Tokens.{IsLater};
 ghost use Rattle.rdt_types.specs.Shards.{shard_of};
 ghost use Rattle.diamond_store.specs.Appending.{client_of};
-ghost use Rattle.diamond_store.specs.Following.{Follows, IsSound};
+ghost use Rattle.diamond_store.specs.Following.{Follows};
 ghost use Rattle.diamond_store.specs.Numbers.{shards_in, window_in, HasSettings};
 ghost use Rattle.diamond_store.specs.Replicas.{Replicates};
 ghost use Rattle.diamond_store.specs.Reading as reading;
-ghost use Rattle.diamond_store.specs.Reading.{ReadsFrom, ReadsBack, FindsAlong, IsValidation};
+ghost use Rattle.diamond_store.specs.Reading.{ReadsFrom, ReadsBack, ReadsAlong, FindsAlong, WantsAlong, IsValidation};
 ghost use Rattle.txn_lang.specs.States.{Journal};
-ghost use Rattle.version_shard.specs.Shards.{IsIn};
-ghost use Rattle.version_shard.specs.Standing.{HoldsSoFar};
+ghost use Rattle.local_world.specs.Answering as answering;
+ghost use Rattle.version_shard.specs.Shards.{IsIn, horizon};
+ghost use Rattle.version_shard.specs.Standing.{InEach};
 
 use crate::book::Book;
 use crate::gate::Gate;
-use crate::history::History;
+use crate::history::{History, teach};
+use crate::span::Span;
 use crate::store::Store;
 use abort_witness::Based;
 use change_feed::Tail;
@@ -34,12 +36,18 @@ use std::sync::ledger::{Blank, Ledger};
 use txn_lang::Snap;
 use version_shard::{AtError, Prepared, Refusal, Shard};
 
-/// A shard, and a token that has seen at least the commits that the shard holds.
+/// The shard of a place, and a token that has seen at least the commits that the shard holds.
 #[derive(Drop)]
-pub(crate) struct Replica<K: Keep, N: Naming> {
+struct ShardPost<K: Keep, N: Naming> {
     place: u8,
     shard: Shard,
     token: Front<Book<K>, N>,
+}
+
+/// What stands behind the lock of a shard. Contracts see its place.
+#[derive(Drop)]
+pub(crate) struct Replica<K: Keep, N: Naming> {
+    post: ShardPost<K, N>,
 }
 
 impl<K: Keep, N: Naming> Model for Replica<K, N> {
@@ -51,15 +59,16 @@ impl<K: Keep, N: Naming> Model for Replica<K, N> {
 
     ghost coded = { coded_ℕ };
 
-    ghost view = { λ r. r.place };
+    ghost view = { λ r. r.post.place };
 
-    ghost invariant = { λ r. Replicates N.lock.origin r.token.seen r.place r.shard };
+    ghost invariant = { λ r. Replicates N.lock.origin r.post.token.seen r.post.place r.post.shard };
 }
 
 /// A shard that has followed nothing.
 fn empty_shard(alloc: Global, place: u8, settings: &Settings) -> Result<Shard, AllocError>
     requires { place < settings.now.shards }
-    ensures { (numbers : List ℕ) (journal : Journal) → HasSettings numbers settings.now → IfOk result (λ shard. Replicates numbers journal place shard) }
+    ensures { (numbers : List ℕ) (journal : Journal) → HasSettings numbers settings.now
+        → IfOk result (Replicates numbers journal place) }
 {
     Shard::new(alloc, place, settings, &Tail::none(alloc, 0))
 }
@@ -68,49 +77,47 @@ fn empty_shard(alloc: Global, place: u8, settings: &Settings) -> Result<Shard, A
 fn follow<K: Keep, N: Naming, R: Wait>(
     rt: &R,
     history: &History<K, N>,
-    token: &mut Front<Book<K>, N>,
-    shard: &mut Shard,
-    place: u8,
+    post: &mut ShardPost<K, N>,
     to: u64,
 ) -> Result<(), AllocError>
-    requires within { to ≤ length token.old.seen }
-    requires replicates { Replicates N.lock.origin token.old.seen place shard.old }
-    ensures replicates { Replicates N.lock.origin token.new.seen place shard.new }
-    ensures never_back { shard.old.front ≤ shard.new.front }
-    ensures within { shard.new.front ≤ max shard.old.front to }
-    ensures reached { OnOk result (to ≤ shard.new.front) }
+    requires within { to ≤ length post.old.token.seen }
+    requires holds { Replicates N.lock.origin post.old.token.seen post.old.place post.old.shard }
+    ensures place { post.new.place ≡ post.old.place }
+    ensures holds { Replicates N.lock.origin post.new.token.seen post.old.place post.new.shard }
+    ensures never_back { post.old.shard.front ≤ post.new.shard.front }
+    ensures within { post.new.shard.front ≤ max post.old.shard.front to }
+    ensures reached { OnOk result (to ≤ post.new.shard.front) }
 {
-    let front = shard.front();
-    if to <= front {
+    let place = post.place;
+    let from = post.shard.front();
+    if to <= from {
         return Ok(());
     }
-    let tail = history.tail(rt, token, place, front, to)?;
-    shard.follow(&tail)
+    let tail = history.tail(rt, &mut post.token, place, Span { from, to })?;
+    post.shard.follow(&tail)
 }
 
 /// The shard's token and another learn of each other, and the shard follows to a number that the other has seen.
 fn reach<K: Keep, N: Naming, R: Wait>(
     rt: &R,
     history: &History<K, N>,
-    token: &mut Front<Book<K>, N>,
-    shard: &mut Shard,
-    place: u8,
+    post: &mut ShardPost<K, N>,
     other: &mut Front<Book<K>, N>,
     to: u64,
 ) -> Result<(), AllocError>
     requires within { to ≤ length other.old.seen }
-    requires replicates { Replicates N.lock.origin token.old.seen place shard.old }
-    ensures replicates { Replicates N.lock.origin token.new.seen place shard.new }
+    requires holds { Replicates N.lock.origin post.old.token.seen post.old.place post.old.shard }
+    ensures place { post.new.place ≡ post.old.place }
+    ensures holds { Replicates N.lock.origin post.new.token.seen post.old.place post.new.shard }
     ensures later { IsLater client_of other.old other.new }
     ensures lawful { IsLawful Follows N.lock.base other.new.seen }
-    ensures reached { OnOk result (to ≤ shard.new.front) }
-    ensures told { OnOk result (Replicates N.lock.origin other.new.seen place shard.new) }
+    ensures reached { OnOk result (to ≤ post.new.shard.front) }
+    ensures told { OnOk result
+        (Replicates N.lock.origin other.new.seen post.old.place post.new.shard) }
 {
-    let copy = history.journal.split(other);
-    history.journal.meet(token, copy);
-    let followed = follow(rt, history, token, shard, place, to);
-    let copy = history.journal.split(token);
-    history.journal.meet(other, copy);
+    teach(&history.journal, other, &mut post.token);
+    let followed = follow(rt, history, post, to);
+    teach(&history.journal, &mut post.token, other);
     followed
 }
 
@@ -132,6 +139,18 @@ pub(crate) struct Validation {
     pub answer: Result<Prepared, PrepareError>,
 }
 
+/// What is told of what a shard finds of observations: neither late nor a clash is a want of memory.
+fn front_told(found: Result<Prepared, Refusal>) -> Result<Prepared, PrepareError>
+    ensures { result ≡ reading.front_told found }
+{
+    match found {
+        Ok(prepared) => Ok(prepared),
+        Err(Refusal::Late(base, horizon)) => Err(PrepareError::Late(base, horizon)),
+        Err(Refusal::Clash(witness)) => Err(PrepareError::Clash(witness)),
+        Err(Refusal::NoMemory) => Err(PrepareError::NoMemory),
+    }
+}
+
 /// What a shard finds of observations in it.
 fn validate<L: Ledger>(
     blank: Blank,
@@ -141,17 +160,14 @@ fn validate<L: Ledger>(
     requires name { blank.name ≡ L.name }
     requires parts { blank.parts ≡ L.parts }
     requires one { blank.parts ≡ 1 }
-    requires here { AllByRecursion (λ b. shard_of b.address shard.now.shards ≡ shard.now.number) based.now }
+    requires here { AllByRecursion (λ b. IsIn shard.now b.address) based.now }
     requires kinds { AllByRecursion IsBasedOfOneKind based.now }
-    ensures { FindsAlong shard.now based.now result }
+    ensures finds { FindsAlong shard.now based.now result }
+    ensures want { WantsAlong shard.now based.now result }
 {
     let mut steps = Steps::<L>::new(blank);
-    match shard.validate(based, &mut steps) {
-        Ok(prepared) => Ok(prepared),
-        Err(Refusal::Late(base, horizon)) => Err(PrepareError::Late(base, horizon)),
-        Err(Refusal::Clash(witness)) => Err(PrepareError::Clash(witness)),
-        Err(Refusal::NoMemory) => Err(PrepareError::NoMemory),
-    }
+    let found = shard.validate(based, &mut steps);
+    front_told(found)
 }
 
 impl<K: Keep, N: Naming> Replica<K, N> {
@@ -167,9 +183,11 @@ impl<K: Keep, N: Naming> Replica<K, N> {
     {
         let shard = empty_shard(alloc, place, settings)?;
         Ok(Replica {
-            place,
-            shard,
-            token,
+            post: ShardPost {
+                place,
+                shard,
+                token,
+            },
         })
     }
 
@@ -180,9 +198,9 @@ impl<K: Keep, N: Naming> Replica<K, N> {
         requires settings { HasSettings N.lock.origin settings.now }
         ensures { OnOk result (self.new ≡ place) }
     {
-        if self.place != place {
-            self.shard = empty_shard(alloc, place, settings)?;
-            self.place = place;
+        if self.post.place != place {
+            self.post.shard = empty_shard(alloc, place, settings)?;
+            self.post.place = place;
         }
         Ok(())
     }
@@ -204,10 +222,20 @@ impl<K: Keep, N: Naming> Replica<K, N> {
         let _known = token.count();
         let place = shard_of(address, store.settings.shards);
         self.settle(store.alloc, place, &store.settings)?;
-        let (history, shard) = (&store.history, &mut self.shard);
-        reach(rt, history, &mut self.token, shard, place, token, seen)?;
+        reach(rt, &store.history, &mut self.post, token, seen)?;
         store.gate.at(place);
-        self.shard.read(address)
+        self.post.shard.read(address)
+    }
+}
+
+/// What is told of a shard's answer at a number: that it is late there is no want of memory.
+fn value_told(answer: Result<Value, AtError>) -> Result<Result<Value, ReadAtError>, AllocError>
+    ensures { result ≡ answering.value_told answer }
+{
+    match answer {
+        Ok(value) => Ok(Ok(value)),
+        Err(AtError::Late(number, horizon)) => Ok(Err(ReadAtError::Late(number, horizon))),
+        Err(AtError::NoMemory) => Err(AllocError),
     }
 }
 
@@ -219,14 +247,11 @@ fn value_at(
 ) -> Result<Result<Value, ReadAtError>, AllocError>
     requires here { IsIn shard.now address.now }
     requires within { number ≤ shard.now.front }
-    ensures { (journal : Journal) → shard.now.front ≤ length journal → HoldsSoFar journal shard.now
-        → IfOk result (ReadsBack journal shard.now.window address.now number) }
+    ensures reads { ReadsAlong shard.now address.now number result }
+    ensures err { InEach shard.now (λ _. OnErr result (horizon shard.now ≤ number)) }
 {
-    match shard.read_at(address, number) {
-        Ok(value) => Ok(Ok(value)),
-        Err(AtError::Late(number, horizon)) => Ok(Err(ReadAtError::Late(number, horizon))),
-        Err(AtError::NoMemory) => Err(AllocError),
-    }
+    let answer = shard.read_at(address, number);
+    value_told(answer)
 }
 
 impl<K: Keep, N: Naming> Replica<K, N> {
@@ -247,10 +272,9 @@ impl<K: Keep, N: Naming> Replica<K, N> {
         let _known = token.count();
         let place = shard_of(address, store.settings.shards);
         self.settle(store.alloc, place, &store.settings)?;
-        let (history, shard) = (&store.history, &mut self.shard);
-        reach(rt, history, &mut self.token, shard, place, token, number)?;
+        reach(rt, &store.history, &mut self.post, token, number)?;
         store.gate.at(place);
-        value_at(&self.shard, address, number)
+        value_at(&self.post.shard, address, number)
     }
 
     /// What the shard of a place finds of observations in it, at a front that isn't below their bases.
@@ -272,19 +296,11 @@ impl<K: Keep, N: Naming> Replica<K, N> {
     {
         let _known = token.count();
         self.settle(store.alloc, place, &store.settings)?;
-        let (history, shard) = (&store.history, &mut self.shard);
-        reach(
-            rt,
-            history,
-            &mut self.token,
-            shard,
-            place,
-            token,
-            greatest_base(based),
-        )?;
+        let greatest = greatest_base(based);
+        reach(rt, &store.history, &mut self.post, token, greatest)?;
         store.gate.at(place);
-        let front = self.shard.front();
-        let answer = validate::<Brand>(Blank::new(1), &self.shard, based);
+        let front = self.post.shard.front();
+        let answer = validate::<Brand>(Blank::new(1), &self.post.shard, based);
         Ok(Validation { front, answer })
     }
 }

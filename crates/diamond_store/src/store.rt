@@ -15,7 +15,7 @@ use crate::appending::add;
 use crate::bell::Bell;
 use crate::book::Book;
 use crate::decision::counted;
-use crate::feeder::Feeder;
+use crate::feeder::{Feeder, Taker};
 use crate::gate::Gate;
 use crate::history::History;
 use crate::pass::Pass;
@@ -271,14 +271,15 @@ impl<K: Keep, G: Gate + Drop, N: Naming> Store<K, G, N> {
         ensures looks { pass.old.looks < pass.new.looks }
         ensures whole { IfOk result (λ feed. feed.to ≡ length pass.new.journal) }
     {
-        let taken = pass.taken;
         let told = self.feeder.lock(rt).take(
             rt,
-            self,
+            &self.history,
             &mut pass.front,
-            pass.client,
-            taken,
-            &pass.subscribed,
+            &Taker {
+                client: pass.client,
+                taken: pass.taken,
+                addresses: &pass.subscribed,
+            },
         );
         let Ok(feed) = told else {
             return Err(StoreError::NoMemory);

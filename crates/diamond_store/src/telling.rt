@@ -1,11 +1,11 @@
 //! What a client is told of: the changes at its addresses since it took last.
 
 ghost use Rattle.std.specs.Prelude.{◌≡◌, [], filter, true, false, if◌then◌else◌, IfOk, OnOk, OnErr};
-ghost use Rattle.std.specs.List.{list_all};
 ghost use Rattle.std.specs.BTreeMap.{is_at};
 ghost use Rattle.rdt_types.specs.declared.address.Address.{Address};
 ghost use Rattle.rdt_types.specs.Addresses.{address_cmp};
 ghost use Rattle.change_feed.specs.Feeds.{with_changes};
+ghost use Rattle.diamond_store.specs.Feeders as feeders;
 ghost use Rattle.diamond_store.specs.Passes.{is_in};
 
 use change_feed::{Change, Feed, Tail};
@@ -51,7 +51,7 @@ pub(crate) fn feed_of(
 
 /// Whether a feed has changes at some addresses alone.
 pub(crate) fn is_within(feed: &Feed, addresses: &BTreeSet<Address>) -> bool
-    ensures { result ≡ list_all (λ pair. is_in addresses.now.keys pair.0) feed.now.changes }
+    ensures { result ≡ feeders.is_within addresses.now.keys feed.now }
 {
     for (address, _) in feed.changes().as_slice() {
         if !addresses.contains(address) {

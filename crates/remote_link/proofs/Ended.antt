@@ -104,13 +104,19 @@ asks_answer {A} {K} side asked said link (Err store_error.Fault) old new unbroke
       same = keeps.1 ∙ ap (λ (k : K). record old { link = k; kept = one_fault_more old.kept; lost = true; broken = true }) (sym same);
     }))
 asks_answer {A} {K} side asked said link (Err store_error.NoMemory) old new unbroken found exchanged keeps = record {
-  sound = subst (λ (k : K). IsSound (side old.link) (side k)) (sym (ap (λ (e : LinkEnd K). e.link) keeps)) exchanged.sound;
-  part = subst (λ (k : K). TakesPart asked (side old.link) (side k)) (sym (ap (λ (e : LinkEnd K). e.link) keeps))
+  sound = subst (λ (k : K). IsSound (side old.link) (side k)) (sym (ap (λ (e : LinkEnd K). e.link) keeps.2)) exchanged.sound;
+  part = subst (λ (k : K). TakesPart asked (side old.link) (side k)) (sym (ap (λ (e : LinkEnd K). e.link) keeps.2))
       (all_taken _ _ _ exchanged.took.taken);
-  unbroken = (unbroken, ap (λ (e : LinkEnd K). e.broken) keeps ∙ unbroken);
-  lost = ap (λ (e : LinkEnd K). e.lost) keeps;
-  kept = ap (λ (e : LinkEnd K). e.kept) keeps;
+  unbroken = (unbroken, ap (λ (e : LinkEnd K). e.broken) keeps.2 ∙ unbroken);
+  lost = ap (λ (e : LinkEnd K). e.lost) keeps.2;
+  kept = ap (λ (e : LinkEnd K). e.kept) keeps.2;
   stays = λ lost. absurd (true≢false (sym lost ∙ found));
+  why = inr (record {
+    said = said;
+    exchanged = subst (λ (k : K). Exchanges asked said (side old.link) (side k)) (sym (ap (λ (e : LinkEnd K). e.link) keeps.2)) exchanged;
+    later = keeps.0;
+    keeps = keeps.1;
+  });
 }
 
 -- so it is handed on

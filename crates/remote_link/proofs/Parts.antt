@@ -1,5 +1,5 @@
 -- How much of a request's frame was taken.
-use Rattle.std.proofs.Common.{◌≡◌, ℕ, List, length, take, Option, sym, ap, ◌∙◌, subst, inl, inr, refl, arith}
+use Rattle.std.proofs.Common.{◌≡◌, ℕ, List, length, Option, sym, ap, ◌∙◌, subst, inl, inr, arith}
 use Rattle.std.specs.Prelude.{Err}
 use Rattle.std.proofs.Math.Seq.{take-length}
 use Rattle.dio_core.specs.Links.{Both}

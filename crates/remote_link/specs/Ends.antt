@@ -9,9 +9,9 @@ use Rattle.remote_wire.specs.declared.answer.WireAnswer.{WireAnswer}
 use Rattle.remote_calls.specs.Spelled.{request_for, answered_by}
 use Rattle.remote_link.specs.declared.exchange.Failure.{Failure}
 use Rattle.remote_link.specs.declared.exchange.Failure.TheVariants as failure
-use Rattle.remote_link.specs.Exchanging.{HasFailed, IsSound, TakesPart, Exchanges, Misanswers}
+use Rattle.remote_link.specs.Exchanging.{HasFailed, IsSound, TakesPart, Exchanges, Misanswers, LacksMemoryFor}
 use Rattle.remote_link.specs.Linking.{known_at, IsNoLess}
-use Rattle.remote_link.specs.Kept.{Kept, nothing_kept, linked_of, one_fault_more, TakesIn}
+use Rattle.remote_link.specs.Kept.{Kept, nothing_kept, linked_of, one_fault_more, TakesIn, IsSubscription}
 
 -- The end of a link: what is kept of the client, the last answer's seen number, whether a call has failed, and whether what the
 -- link gave is no talk.
@@ -69,8 +69,15 @@ pub record Breaks {K : Type 0} (side : K → Both) (asked : Request) (old new : 
   pub broken : (old.broken ≡ false) × (new.broken ≡ true)
   pub same : new ≡ record old { link = new.link; kept = one_fault_more old.kept; lost = true; broken = true }
 
+-- The answer to a subscription came, which goes back behind nothing, and there was no memory to keep it.
+pub record IsNotKept (asked : Request) (last : ℕ) (old new : Both) : Type 0 where
+  pub said : WireAnswer
+  pub exchanged : Exchanges asked said old new
+  pub later : IsNoLess asked last said.seen
+  pub keeps : IsSubscription asked
+
 -- Memory was wanting, in this call or an earlier one, or an earlier one has failed. Nothing is kept but that, and the link took a
--- part of the request's frame.
+-- part of the request's frame. In this call memory was wanting in the exchange, or to keep the answer.
 pub record IsLost {K : Type 0} (side : K → Both) (asked : Request) (old new : LinkEnd K) : Type 0 where
   pub sound : IsSound (side old.link) (side new.link)
   pub part : TakesPart asked (side old.link) (side new.link)
@@ -78,6 +85,8 @@ pub record IsLost {K : Type 0} (side : K → Both) (asked : Request) (old new : 
   pub lost : new.lost ≡ true
   pub kept : new.kept ≡ old.kept
   pub stays : old.lost ≡ true → new ≡ old
+  pub why : LacksMemoryFor asked (side old.link) (side new.link)
+      ⊎ IsNotKept asked old.last (side old.link) (side new.link)
 
 -- WHAT ONE CALL OVER A LINK DOES. So it fails by a fault only where a count of the link rose or the end is broken behind it,
 -- and the end breaks only for what the link gave.
@@ -118,7 +127,8 @@ KeepsAnswer asked said old new (Ok kept) =
     × (new ≡ record old { kept = new.kept; last = said.seen })
 KeepsAnswer asked said old new (Err store_error.Fault) =
     (IsNoLess asked old.last said.seen → ⊥) × (new ≡ record old { kept = one_fault_more old.kept; lost = true; broken = true })
-KeepsAnswer asked said old new (Err store_error.NoMemory) = new ≡ record old { last = said.seen; lost = true }
+KeepsAnswer asked said old new (Err store_error.NoMemory) =
+    IsNoLess asked old.last said.seen × IsSubscription asked × (new ≡ record old { last = said.seen; lost = true })
 
 -- the answer, where it was kept
 abbrev pub hands : {A : Type 0} → WireAnswer → Result A StoreError → Result WireAnswer StoreError

@@ -6,13 +6,14 @@ use Rattle.dio_core.specs.Counts.{Rose}
 use Rattle.dio_core.specs.Links.{Both, incoming, outgoing}
 use Rattle.dio_core.specs.Sources.{with_prefix}
 use Rattle.dio_core.specs.Sinks.{with_more, TakesPrefix, IsPassedOn}
-use Rattle.wire_frames.specs.Frames.{frame, IsAtEnd, IsBroken}
+use Rattle.wire_frames.specs.Frames.{frame, IsAtEnd, IsBroken, LacksMemory}
 use Rattle.remote_wire.specs.declared.answer_limits.TheConstants.{LONGEST_ANSWER}
 use Rattle.remote_wire.specs.declared.request.Request.{Request}
 use Rattle.remote_wire.specs.declared.answer.WireAnswer.{WireAnswer}
 use Rattle.remote_wire.specs.Spelling.{request_bytes}
 use Rattle.remote_wire.specs.AnswerSpelling.{answer_bytes}
 use Rattle.remote_wire.specs.Answers.{IsAnswerTo, answer_in}
+use Rattle.remote_wire.specs.Asking.{AsksForAnswer}
 use Rattle.remote_link.specs.declared.exchange.Failure.{Failure}
 use Rattle.remote_link.specs.declared.exchange.Failure.TheVariants as failure
 
@@ -65,9 +66,23 @@ pub record Misanswers (asked : Request) (old new : Both) : Type 0 where
   pub gave : GivesNoAnswer asked old.inwards.left new.inwards.left
   pub sound : IsSound old new
 
+-- what the link gave is a frame that is not read: to read its bytes as an answer memory is asked for
+pub record GivesUnread (asked : Request) (old new : Option (List ℕ)) : Type 0 where
+  pub bytes : List ℕ
+  pub asks : AsksForAnswer asked bytes
+  pub gave : old ≡ with_prefix (frame bytes) new
+
+-- MEMORY WAS WANTING in an exchange: for the request, of which the link took nothing yet; for the bytes of a frame, behind its
+-- length; or to read them. So what is no answer is not told as that, unless memory is asked for before it is known.
+abbrev pub LacksMemoryFor : Request → Both → Both → Type 0
+LacksMemoryFor asked old new =
+    (new ≡ old)
+    ⊎ (LacksMemory LONGEST_ANSWER old.inwards.left new.inwards.left ⊎ GivesUnread asked old.inwards.left new.inwards.left)
+
 -- WHAT ONE EXCHANGE DID. Where the link failed, or memory was wanting, it took a part of the request's frame.
 abbrev pub Exchanged : Request → Result WireAnswer Failure → Both → Both → Type 0
 Exchanged asked (Ok said) old new = Exchanges asked said old new
 Exchanged asked (Err failure.Link) old new = HasFailed old new × TakesPart asked old new
 Exchanged asked (Err failure.Broken) old new = Misanswers asked old new
-Exchanged asked (Err failure.NoMemory) old new = IsSound old new × TakesPart asked old new
+Exchanged asked (Err failure.NoMemory) old new =
+    IsSound old new × TakesPart asked old new × LacksMemoryFor asked old new

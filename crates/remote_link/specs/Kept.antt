@@ -1,5 +1,5 @@
 -- What the end of a link keeps of what was answered, and whether it can still be asked.
-use Rattle.std.specs.Prelude.{◌≡◌, ℕ, Bool, List, []}
+use Rattle.std.specs.Prelude.{◌≡◌, ℕ, Bool, List, [], refl}
 use Rattle.std.specs.List.{list_any}
 use Rattle.std.specs.BTreeMap.{is_at}
 use Rattle.dio_core.specs.Counts.{one_more}
@@ -7,6 +7,7 @@ use Rattle.rdt_types.specs.declared.address.Address.{Address}
 use Rattle.rdt_types.specs.declared.limits.TheConstants.{LEAST_SHARDS}
 use Rattle.rdt_types.specs.Addresses.{address_cmp}
 use Rattle.remote_wire.specs.declared.request.Request.{Request}
+use Rattle.remote_wire.specs.declared.request.Request.TheVariants as request
 use Rattle.remote_wire.specs.declared.answer.Given.{Given}
 use Rattle.remote_link.specs.Linking.{Linked, linked_behind}
 
@@ -47,3 +48,11 @@ one_fault_more k = record k { faults = one_more k.faults }
 -- what was answered is kept
 abbrev pub TakesIn : Kept → Request → ℕ → Given → Kept → Type 0
 TakesIn old asked seen given new = linked_of new ≡ linked_behind (linked_of old) asked (record { seen = seen; given = given })
+
+-- an answer to a subscription is kept beside those before it, for which memory is asked; to no other request is it
+abbrev pub IsSubscription : Request → Type 0
+IsSubscription (request.Subscribe address) = Unit {0}
+IsSubscription asked = ⊥
+
+IsSubscription-example : IsSubscription request.Take ≡ ⊥
+IsSubscription-example = refl

@@ -1,11 +1,12 @@
 //! A request goes out over a link, and its answer comes back.
 
-ghost use Rattle.std.specs.Prelude.{◌≡◌, ◌≤◌, length, not};
+ghost use Rattle.std.specs.Prelude.{◌≡◌, ◌≤◌, length, not, Err};
 ghost use Rattle.std.specs.Bool.{OnTrue};
 ghost use Rattle.dio_core.specs.Counts.{IsCounted};
 ghost use Rattle.dio_core.specs.Links.{incoming, outgoing};
 ghost use Rattle.dio_core.specs.Sinks.{with_more, TakesPrefix, IsPassedOn};
-ghost use Rattle.wire_frames.specs.Frames.{frame, TakesFrame, frame_failed};
+ghost use Rattle.wire_frames.specs.declared.reading.FrameFault.TheVariants as frame_faults;
+ghost use Rattle.wire_frames.specs.Frames.{frame, TakesFrame, LacksMemory, frame_failed};
 ghost use Rattle.remote_wire.specs.declared.limits.TheConstants.{LONGEST_REQUEST};
 ghost use Rattle.remote_wire.specs.declared.answer_limits.TheConstants.{LONGEST_ANSWER};
 ghost use Rattle.remote_link.specs.Exchanging.{sides, Exchanged};
@@ -102,6 +103,8 @@ fn send<K: End>(link: &mut K, bytes: &[u8]) -> bool
 /// Reads a frame.
 fn receive<K: End>(alloc: Global, link: &mut K) -> Result<Frame, FrameFault>
     ensures frame { TakesFrame LONGEST_ANSWER result (K.left link.old) (K.left link.new) }
+    ensures memory { result ≡ Err frame_faults.NoMemory
+        → LacksMemory LONGEST_ANSWER (K.left link.old) (K.left link.new) }
     ensures reads { IsCounted (frame_failed result) (K.read_faults link.old) (K.read_faults link.new) }
     ensures outgoing { outgoing (K.taken link.new) (K.passed link.new) (K.write_faults link.new)
         ≡ outgoing (K.taken link.old) (K.passed link.old) (K.write_faults link.old) }

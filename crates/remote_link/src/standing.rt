@@ -6,7 +6,7 @@ ghost use Rattle.rdt_types.specs.declared.address.Address.{Address};
 ghost use Rattle.rdt_types.specs.Addresses.{address_cmp};
 ghost use Rattle.remote_link.specs.Table.{IsAnswer};
 ghost use Rattle.remote_link.specs.Linking.{is_disk};
-ghost use Rattle.remote_link.specs.Kept.{is_in, TakesIn, nothing_kept, one_fault_more};
+ghost use Rattle.remote_link.specs.Kept.{is_in, TakesIn, nothing_kept, one_fault_more, IsSubscription};
 
 use dio_core::Count;
 use plain_data::copied;
@@ -98,6 +98,9 @@ impl Standing {
         requires fits { IsAnswer request.now seen given.now }
         ensures ok { OnOk result (TakesIn self.old request.now seen given.now self.new) }
         ensures err { OnErr result (self.new ≡ self.old) }
+
+        // Memory is wanting for a subscription alone.
+        ensures memory { OnErr result (IsSubscription request.now) }
     {
         match request {
             Request::ReadAt(_, _) => {}

@@ -20,7 +20,7 @@ use Rattle.session_core.specs.Holding.{BodyIsReady, Attends, UnlessOver, Follows
 use Rattle.session_core.specs.LineLaws.{AnswersFor}
 use Rattle.session_core.specs.LinePrograms.{line_over}
 use Rattle.session_core.specs.Sessions.{IsAccounted}
-use Rattle.session_core.specs.Stopping.{adds, StopsShort, Does}
+use Rattle.session_core.specs.Stopping.{owes_reply, StopsShort, Does}
 use Rattle.session_core.specs.Verbs.{LineEnd}
 use Rattle.session_core.proofs.Done.{led_attends, led_explained}
 use Rattle.session_core.proofs.LinesSafe.{lines_are_safe}
@@ -40,8 +40,8 @@ short_known {known} {goes} (StopsShort.behind answer led step ok quiet want) =
     StopsShort.behind answer (known_leads known goes led) step.answered ok quiet want
 short_known {known} {goes} (StopsShort.fails by_fault led step cause) = StopsShort.fails by_fault (known_leads known goes led) step.answered cause
 
--- a call that adds nothing says nothing
-quiet_says : (P : List Reply → Type 0) (call : Call) (answer : Answer) → adds call ≡ false → Says P call answer → P []
+-- an answer that owes no reply says nothing
+quiet_says : (P : List Reply → Type 0) (call : Call) (answer : Answer) → owes_reply call answer ≡ false → Says P call answer → P []
 quiet_says P (Call.append ready) answer quiet h = absurd (cc)
 quiet_says P call answer quiet h = h
 

@@ -13,6 +13,7 @@ use Rattle.docc_prepare.specs.Calls.{Known, Call, Answer}
 use Rattle.docc_prepare.specs.Backends.{Goes}
 use Rattle.call_programs.specs.Programs.{Program, Leads}
 use Rattle.call_programs.proofs.Programs.{to_same, and_then, bound}
+use Rattle.session_core.specs.declared.approach.LastRun.{LastRun}
 use Rattle.session_core.specs.declared.approach.Approach.{Approach}
 use Rattle.session_core.specs.declared.approach.Approach.TheVariants as approach
 use Rattle.session_core.specs.declared.error.SessionError.{SessionError}
@@ -54,8 +55,8 @@ module _ {B : Type 0} {known : B → Known} {goes : B → Call → Answer → B 
       (subst (λ e. StopsShort (Goes known goes) b (drive s a) (e ≡ error.StoreFault) c) (sym y.2) short)
 
   -- it has come to its append
-  pub came_next : {b c : B} {a on : Attempt} {run : Run} {at_hand : Option (List Based)} {end : Approach} → end ≡ approach.Append run at_hand
-      → Approaches known goes s b a (Ok end) c on → IsNext known goes s b a run at_hand c on
+  pub came_next : {b c : B} {a on : Attempt} {last : LastRun} {end : Approach} → end ≡ approach.Append last
+      → Approaches known goes s b a (Ok end) c on → IsNext known goes s b a last c on
   came_next {b} {c} {a} {on} is comes = subst (λ (end : Approach). Approaches known goes s b a (Ok end) c on) is comes
 
   -- or to its end
@@ -67,7 +68,7 @@ module _ {B : Type 0} {known : B → Known} {goes : B → Call → Answer → B 
   pub whole_near : {b c : B} {a on : Attempt} (shard front : ℕ) (run : Run) (all : List Based)
       → Leads (Goes known goes) b (event_on s a) c (Program.ends (on, None)) → next_event a ≡ next.Prepare shard run
       → all ≡ in_shard a.shards shard (based a.snaps run.observations) → on ≡ with_front a shard front → length all ≡ length run.observations
-      → Nears known goes s b a (Ok (Some (approach.Append run (Some all)))) c on
+      → Nears known goes s b a (Ok (Some (approach.Append (record { run = run; based = Some all })))) c on
   whole_near {a} {on} shard front run all led prepares all_is on_is whole =
       let long : length (in_shard a.shards shard (based a.snaps run.observations)) ≡ length run.observations = ap length (sym all_is) ∙ whole in
       let follows : next_event on ≡ next.Append run = ap next_event on_is ∙ append-next a run shard front prepares long in
@@ -75,12 +76,12 @@ module _ {B : Type 0} {known : B → Known} {goes : B → Call → Answer → B 
       (OneAtMost.one led, (follows, same ∙ ap (λ (x : Attempt). based x.snaps run.observations) (sym on_is)))
 
   -- where its append is next, an event is left
-  at_append : {b c : B} {a on : Attempt} (i : ℕ) (run : Run) (at_hand : Option (List Based)) → Attends (known b) (closed s) → Holds (known b) a
+  at_append : {b c : B} {a on : Attempt} (i : ℕ) (last : LastRun) → Attends (known b) (closed s) → Holds (known b) a
       → Leads (Goes known goes) b (drive s a) c (drive_in (events - i) s on) → Attends (known c) (closed s) → Holds (known c) on
-      → next_event on ≡ next.Append run → AreAllOf on run at_hand → IsNext known goes s b a run at_hand c on
-  at_append {b} {c} {a} {on} i run at_hand is holds led attends holds_on follows all = by (nat_lt i MOST_EVENTS) refl
+      → next_event on ≡ next.Append last.run → AreAllOf on last.run last.based → IsNext known goes s b a last c on
+  at_append {b} {c} {a} {on} i last is holds led attends holds_on follows all = by (nat_lt i MOST_EVENTS) refl
     where
-      by : (x : Bool) → nat_lt i MOST_EVENTS ≡ x → IsNext known goes s b a run at_hand c on
+      by : (x : Bool) → nat_lt i MOST_EVENTS ≡ x → IsNext known goes s b a last c on
       by true e = record {
         left = events - (i + 1);
         led = to_same (ap (λ (n : ℕ). drive_in n s on) (one_event i (grind (arith, nat_tests)))) led;
@@ -92,14 +93,14 @@ module _ {B : Type 0} {known : B → Known} {goes : B → Call → Answer → B 
       by false e = absurd (drives_enough s on i (grind (arith, nat_tests)) is holds led)
 
   -- behind one event more, or none
-  comes_next : {b m c : B} {a x on : Attempt} (i : ℕ) (run : Run) (at_hand : Option (List Based)) → i < MOST_EVENTS → Attends (known b) (closed s)
+  comes_next : {b m c : B} {a x on : Attempt} (i : ℕ) (last : LastRun) → i < MOST_EVENTS → Attends (known b) (closed s)
       → Holds (known b) a → Leads (Goes known goes) b (drive s a) m (drive_in (events - i) s x) → Attends (known m) (closed s) → Holds (known m) x
-      → OneAtMost known goes s m x c on → next_event on ≡ next.Append run → AreAllOf on run at_hand → IsNext known goes s b a run at_hand c on
-  comes_next i run at_hand within is holds first is_on holds_on OneAtMost.none_yet follows all =
-      at_append i run at_hand is holds first is_on holds_on follows all
-  comes_next i run at_hand within is holds first is_on holds_on (OneAtMost.one led) follows all =
+      → OneAtMost known goes s m x c on → next_event on ≡ next.Append last.run → AreAllOf on last.run last.based → IsNext known goes s b a last c on
+  comes_next i last within is holds first is_on holds_on OneAtMost.none_yet follows all =
+      at_append i last is holds first is_on holds_on follows all
+  comes_next i last within is holds first is_on holds_on (OneAtMost.one led) follows all =
       let on = event_goes_on s is_on holds_on refl led in
-      at_append (i + 1) run at_hand is holds
+      at_append (i + 1) last is holds
       (and_then (to_same (drive_round i s _ within) first) (bound (or_on (drive_in (events - (i + 1)) s)) led Leads.stays)) on.0 on.1 follows all
 
   -- where the last of some events leads to
@@ -108,8 +109,8 @@ module _ {B : Type 0} {known : B → Known} {goes : B → Call → Answer → B 
       → Nears known goes s m x (Ok (Some near)) c on → Approaches known goes s b a (Ok near) c on
   comes_near i c on (approach.End r) within is holds first is_on holds_on led =
       and_then (to_same (drive_round i s _ within) first) (bound (or_on (drive_in (events - (i + 1)) s)) led Leads.stays)
-  comes_near i c on (approach.Append run at_hand) within is holds first is_on holds_on near =
-      comes_next i run at_hand within is holds first is_on holds_on near.0 near.1.0 near.1.1
+  comes_near i c on (approach.Append last) within is holds first is_on holds_on near =
+      comes_next i last within is holds first is_on holds_on near.0 near.1.0 near.1.1
 
   -- the append ends the attempt
   pub append_ends : {b c : B} (d : B) (a on : Attempt) (left : ℕ) (r : Result Reply SessionError)

@@ -23,9 +23,6 @@ use Rattle.txn_lang.proofs.Typing.{bodies_are_judged}
 use Rattle.txn_lang.proofs.Trees.{tree_of_typed, tree_read}
 use Rattle.session_core.specs.Words.{trimmed_end}
 use Rattle.session_core.specs.Bodies.{if_pure, if_tree, checked_of, ill_typed, unread, refusal_of, or_refused, body_of}
-use Rattle.session_core.specs.declared.line.Line.{Line}
-use Rattle.session_core.specs.declared.line.Line.TheVariants as asks
-use Rattle.session_core.specs.Lines.{with_body}
 use Rattle.session_core.specs.code.Reading.{ReadsBody, of_parse, of_check, split}
 use Rattle.journal_core.specs.declared.limits.TheConstants.{LONGEST_BODY}
 use Rattle.journal_core.specs.Bodies.{ends_in_blank}
@@ -184,11 +181,3 @@ module _ (read_only : Bool) (text : Text) (body : Body) (c : Checked) (b : c.bod
     text = tree_of_typed c.source c.body (ap parsed trimmed ∙ (parsed_trimmed text ∙ (read ∙ ap (λ x. Some x) (sym b)))) (subst IsTyped (sym b) typed);
     body_text = record { short = short; trimmed = ap ends_in_blank trimmed ∙ trimmed_end-trimmed text };
   }
-
--- what a verb with a body asks for, by what is read
-pub with_read : (f : Checked → Line) (r : Result Checked Why) (checked : Checked) → r ≡ Ok checked → with_body f r ≡ f checked
-with_read f r checked e = ap (with_body f) e
-
--- where the body is refused, the line is refused for the same reason
-pub with_refused : (f : Checked → Line) (r : Result Checked Why) (reason : Why) → r ≡ Err reason → with_body f r ≡ asks.Refused reason
-with_refused f r reason e = ap (with_body f) e

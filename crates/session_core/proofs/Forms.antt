@@ -7,6 +7,7 @@ use Rattle.predictive_parsing.specs.Reading.{whole}
 use Rattle.predictive_parsing.specs.Bytes.{IsByte}
 use Rattle.predictive_parsing.proofs.Wholes.{whole_sound, whole_complete}
 use Rattle.session_text.specs.declared.verb.Verb.{Verb}
+use Rattle.session_text.specs.declared.verb.Verb.TheVariants as asks
 use Rattle.session_text.specs.declared.verb.VerbError.{VerbError}
 use Rattle.session_text.specs.declared.verb.VerbError.TheVariants as verb
 use Rattle.session_text.specs.Lines.{VerbRule, IsVerb}
@@ -14,8 +15,8 @@ use Rattle.session_text.specs.code.Lines.{line}
 use Rattle.session_text.specs.Follows.{at_end}
 use Rattle.session_text.proofs.LineFits.{line_fits}
 use Rattle.txn_grammar.specs.Characters.{Text}
-use Rattle.session_core.specs.Lines.{asked, VerbsAreForms}
-use Rattle.session_core.specs.code.Reading.{verb_of}
+use Rattle.session_core.specs.Lines.{asked, of_form, VerbsAreForms}
+use Rattle.session_core.specs.code.Reading.{form_of, line_of_form, verb_of}
 
 -- a verb comes only of a reading that went well, and is the one that was read
 read_by : (r : Result Verb (List ℕ)) (v : Verb) → result_ok r ≡ Some v → r ≡ Ok v
@@ -55,3 +56,20 @@ pub read-none : (r : Result Verb VerbError) → verb_of r ≡ Ok None → r ≡ 
 read-none (Ok found) e = absurd (cc)
 read-none (Err verb.BadVerb) e = refl
 read-none (Err verb.NoMemory) e = absurd (cc)
+
+-- what was read is the verb that is asked for
+pub asked-is : (text : Text) (r : Result Verb VerbError) (o : Option Verb) → IfOk r (λ x. IsVerb text x)
+    → (r ≡ Err verb.BadVerb → (v : Verb) → IsVerb text v → ⊥) → verb_of r ≡ Ok o → asked text ≡ o
+asked-is text r (Some v) read bad e = asked_complete text v (read-verb text r v read e)
+asked-is text r None read bad e = none_asked text (bad (read-none r e))
+
+-- a line of the form of a verb asks for what that does, and one of no verb's form is refused
+pub form_reads : (o : Option Verb) → line_of_form (form_of o) ≡ of_form o
+form_reads None = refl
+form_reads (Some (asks.Begin text)) = refl
+form_reads (Some (asks.Do text)) = refl
+form_reads (Some (asks.Try tries text)) = refl
+form_reads (Some (asks.Look text)) = refl
+form_reads (Some (asks.At number text)) = refl
+form_reads (Some (asks.Watch name text)) = refl
+form_reads (Some v) = refl

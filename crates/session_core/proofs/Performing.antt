@@ -35,11 +35,11 @@ use Rattle.session_core.specs.declared.moved.Moved.{Moved}
 use Rattle.session_core.specs.declared.moved.Moved.TheVariants as moved
 use Rattle.session_core.specs.declared.session.Session.{Session}
 use Rattle.session_core.specs.Errors.{error_of, error_by, LeavesError}
-use Rattle.session_core.specs.Events.{closed, seq_after, ended, appends, event_call, call_of, moved_at, moved_by}
-use Rattle.session_core.specs.code.Turning.{Turned, moved_on_read, moved_on_prepare, moved_on_append, is_abort, Valued}
+use Rattle.session_core.specs.Events.{closed, seq_after, ended, is_kept, event_call, call_of, moved_at, moved_by}
+use Rattle.session_core.specs.code.Turning.{Turned, moved_on_read, moved_on_prepare, moved_on_append, is_abort, is_value, Valued}
 use Rattle.session_core.specs.Verbs.{LineEnd, AttemptEnd, says, moved_to, event, was_read, was_prepared, event_on, or_on, drive_in, events, attempt_once}
 use Rattle.session_core.specs.Verbs.{unless_abort, then_again, try_times, by_attempt, unless_open, if_open, valued, look_by, look_in, look_at, look_from}
-use Rattle.session_core.specs.Stopping.{adds, StopsShort, Does}
+use Rattle.session_core.specs.Stopping.{owes_reply, StopsShort, Does}
 use Rattle.session_core.proofs.Stopping.{Asks, stops_of}
 
 -- ---- errors
@@ -77,11 +77,12 @@ moved_succeeds : (a : Attempt) (answer : Answer) (m : Moved) → moved_by a answ
 moved_succeeds a (Answer.failed f) m is = let none : Some m ≡ None = sym is ∙ moved_failed a f in absurd (cc)
 moved_succeeds a answer m is = tt
 
--- only an append's call adds anything
-event_adds : (s : Session) (a : Attempt) (n : Next) → adds (event_call s a n) ≡ appends n
-event_adds s a (next.Read address) = refl
-event_adds s a (next.Prepare shard run) = refl
-event_adds s a (next.Append run) = refl
+-- an answer that is to be kept owes no reply
+event_owes : (s : Session) (a : Attempt) (n : Next) (answer : Answer) → is_kept n answer ≡ true → owes_reply (event_call s a n) answer ≡ false
+event_owes s a (next.Read address) answer kept = refl
+event_owes s a (next.Prepare shard run) (Answer.prepared p) kept = refl
+event_owes s a (next.Prepare shard run) answer kept = absurd (cc)
+event_owes s a (next.Append run) answer kept = absurd (cc)
 
 -- the error of a failed call is a fault exactly where it failed by one
 fault_by : (f : Bool) (e : SessionError) → e ≡ error_by f → (e ≡ error.StoreFault) ↔ (f ≡ true)
@@ -89,11 +90,11 @@ fault_by true e is = (λ fault. refl, λ so. is)
 fault_by false e is = (λ fault. absurd (let both : error.NoMemory ≡ error.StoreFault = sym is ∙ fault in cc), λ so. absurd (cc))
 
 -- where an answer leaves an error, a call stops short
-leaves_short : {S A : Type 0} {goes : S → Call → Answer → S → Type 0} {s t : S} {call : Call} {next : Answer → Program A} (adding : Bool)
-    (answer : Answer) (e : SessionError) → adds call ≡ adding → goes s call answer t → LeavesError adding answer e
+leaves_short : {S A : Type 0} {goes : S → Call → Answer → S → Type 0} {s t : S} {call : Call} {next : Answer → Program A} (kept : Bool)
+    (answer : Answer) (e : SessionError) → (kept ≡ true → owes_reply call answer ≡ false) → goes s call answer t → LeavesError kept answer e
     → StopsShort goes s (Program.asks call next) (e ≡ error.StoreFault) t
-leaves_short adding (Answer.failed f) e same step leaves = StopsShort.fails f Leads.stays step (fault_by f e leaves)
-leaves_short adding answer e same step leaves = StopsShort.behind answer Leads.stays step tt (same ∙ leaves.1) (no_fault leaves.0)
+leaves_short kept (Answer.failed f) e quiet step leaves = StopsShort.fails f Leads.stays step (fault_by f e leaves)
+leaves_short kept answer e quiet step leaves = StopsShort.behind answer Leads.stays step tt (quiet leaves.1) (no_fault leaves.0)
 
 module _ {B : Type 0} {known : B → Known} {goes : B → Call → Answer → B → Type 0} {b c : B} {answer : Answer} (s : Session) (a : Attempt) (n : Next)
     (is : next_event a ≡ n) (step : Goes known goes b (event_call s a n) answer c) where
@@ -106,9 +107,9 @@ module _ {B : Type 0} {known : B → Known} {goes : B → Call → Answer → B 
   event_led m turned = one_call answer called (moved_succeeds a answer m turned) (ap moved_to turned)
 
   -- and one behind which there is an error
-  event_stops : (e : SessionError) → LeavesError (appends (next_event a)) answer e
+  event_stops : (e : SessionError) → LeavesError (is_kept (next_event a) answer) answer e
       → StopsShort (Goes known goes) b (event s a) (e ≡ error.StoreFault) c
-  event_stops e leaves = leaves_short (appends (next_event a)) answer e (event_adds s a (next_event a)) called leaves
+  event_stops e leaves = leaves_short (is_kept (next_event a) answer) answer e (event_owes s a (next_event a) answer) called leaves
 
   -- an answered read
   pub read_does : (address : Address) (left : Attempt) (r : Result ℕ SessionError) → Turned a answer (moved_on_read address left r)
@@ -208,7 +209,7 @@ valued_late more n snaps address answer longer r h = absurd h
 pub valued_short : {S A : Type 0} {goes : S → Call → Answer → S → Type 0} {s t : S} {next : Answer → Program A} (n : ℕ) (snaps longer : SnapList)
     (address : Address) (answer : Answer) (e : SessionError) → goes s (Call.read_at address n) answer t → Valued snaps address n answer (Err e) longer
     → Stops goes s (Program.asks (Call.read_at address n) next) (e ≡ error.StoreFault) t
-valued_short n snaps longer address answer e step leaves = stops_of (leaves_short false answer e refl step leaves)
+valued_short n snaps longer address answer e step leaves = stops_of (leaves_short (is_value answer) answer e (λ kept. refl) step leaves)
 
 -- a number past what is seen is ahead
 pub from_ahead : (body : Checked) (seen n : ℕ) → seen < n → look_from (Some n) body seen ≡ Program.ends (reply.Ahead n seen)

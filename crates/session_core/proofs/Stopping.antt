@@ -1,5 +1,5 @@
--- What stops short, put together; and what has added nothing.
-use Rattle.std.proofs.Common.{◌≡◌, Bool, true, false, Result, Ok, Err, refl, sym, subst}
+-- What stops short, put together; and programs that owe nothing.
+use Rattle.std.proofs.Common.{◌≡◌, true, false, Result, Ok, Err, refl, sym, subst}
 use Rattle.std.specs.Prelude.{IsErrAnd}
 use Rattle.std.proofs.lemmas.Result.{err_from_is_err_and}
 use Rattle.docc_prepare.specs.declared.backend.StoreError.{StoreError}
@@ -16,7 +16,7 @@ use Rattle.session_core.specs.declared.turn.Turn.{Turn}
 use Rattle.session_core.specs.Errors.{error_of}
 use Rattle.session_core.specs.Events.{said}
 use Rattle.session_core.specs.code.Turning.{turn_of}
-use Rattle.session_core.specs.Stopping.{adds, StopsShort, Does}
+use Rattle.session_core.specs.Stopping.{owes_reply, StopsShort, Does}
 use Rattle.session_core.specs.Verbs.{LineEnd, Plays}
 
 -- ---- put together
@@ -106,23 +106,23 @@ module _ {B : Type 0} (known : B → Known) (goes : B → Call → Answer → B 
   plays_of p give (Ok x) led = led
   plays_of p give (Err e) short = stops_of short
 
--- ---- programs that add nothing
+-- ---- programs that owe nothing
 
--- whatever it is answered, it asks no call that adds anything
-abbrev pub AddsNothing : {A : Type 0} → Program A → Type 0
-AddsNothing (Program.ends a) = Unit {0}
-AddsNothing (Program.asks call next) = (adds call ≡ false) × ((answer : Answer) → AddsNothing (next answer))
-AddsNothing Program.stuck = Unit {0}
+-- whatever it is answered, no answer owes a reply
+abbrev pub OwesNothing : {A : Type 0} → Program A → Type 0
+OwesNothing (Program.ends a) = Unit {0}
+OwesNothing (Program.asks call next) = ((answer : Answer) → owes_reply call answer ≡ false) × ((answer : Answer) → OwesNothing (next answer))
+OwesNothing Program.stuck = Unit {0}
 
 -- nor do two, one behind the other
-pub adds_bind : {A C : Type 0} (f : A → Program C) (p : Program A) → AddsNothing p → ((a : A) → AddsNothing (f a)) → AddsNothing (bind p f)
-adds_bind f (Program.ends a) adding more = more a
-adds_bind f (Program.asks call next) adding more = (adding.0, λ answer. adds_bind f (next answer) (adding.1 answer) more)
-adds_bind f Program.stuck adding more = tt
+pub owes_bind : {A C : Type 0} (f : A → Program C) (p : Program A) → OwesNothing p → ((a : A) → OwesNothing (f a)) → OwesNothing (bind p f)
+owes_bind f (Program.ends a) owing more = more a
+owes_bind f (Program.asks call next) owing more = (owing.0, λ answer. owes_bind f (next answer) (owing.1 answer) more)
+owes_bind f Program.stuck owing more = tt
 
 -- one such call, and then what stops short
 pub short_call : {S A : Type 0} {goes : S → Call → Answer → S → Type 0} {s m t : S} {call : Call} {next : Answer → Program A} {X : Type 0}
-    (answer : Answer) → goes s call answer m → Succeeds answer → adds call ≡ false → StopsShort goes m (next answer) X t
+    (answer : Answer) → goes s call answer m → Succeeds answer → owes_reply call answer ≡ false → StopsShort goes m (next answer) X t
     → StopsShort goes s (Program.asks call next) X t
 short_call {goes} {s} {call} answer step ok quiet (StopsShort.at_once same want) =
     StopsShort.behind answer Leads.stays (subst (goes s call answer) (sym same) step) ok quiet want
@@ -133,25 +133,25 @@ short_call answer step ok quiet (StopsShort.fails by_fault led event cause) = St
 
 -- and then what is done
 pub does_call : {B A T : Type 0} {known : B → Known} {goes : B → Call → Answer → B → Type 0} {b m : B} {call : Call}
-    (next : Answer → Program A) (give : T → A) (c : B) (r : Result T SessionError) (answer : Answer) → Goes known goes b call answer m → Succeeds answer → adds call ≡ false
+    (next : Answer → Program A) (give : T → A) (c : B) (r : Result T SessionError) (answer : Answer) → Goes known goes b call answer m → Succeeds answer → owes_reply call answer ≡ false
     → Does known goes m (next answer) r give c → Does known goes b (Program.asks call next) r give c
 does_call next give c (Ok x) answer step ok quiet rest = Leads.by_call answer step ok rest
 does_call next give c (Err e) answer step ok quiet rest = short_call answer step ok quiet rest
 
 -- wherever memory is wanting for such a program
-quiet_way : {S A : Type 0} {goes : S → Call → Answer → S → Type 0} {s t : S} {p rest : Program A} {X : Type 0} → AddsNothing p → Leads goes s p t rest
+quiet_way : {S A : Type 0} {goes : S → Call → Answer → S → Type 0} {s t : S} {p rest : Program A} {X : Type 0} → OwesNothing p → Leads goes s p t rest
     → (X → ⊥) → StopsShort goes s p X t
-quiet_way adding Leads.stays want = StopsShort.at_once refl want
-quiet_way adding (Leads.by_call answer step ok rest) want = short_call answer step ok adding.0 (quiet_way (adding.1 answer) rest want)
+quiet_way owing Leads.stays want = StopsShort.at_once refl want
+quiet_way owing (Leads.by_call answer step ok rest) want = short_call answer step ok (owing.0 answer) (quiet_way (owing.1 answer) rest want)
 
 -- so it stops short wherever it stops
-quiet_short : {S A : Type 0} {goes : S → Call → Answer → S → Type 0} {s t : S} {p : Program A} {X : Type 0} → AddsNothing p → Stops goes s p X t
+quiet_short : {S A : Type 0} {goes : S → Call → Answer → S → Type 0} {s t : S} {p : Program A} {X : Type 0} → OwesNothing p → Stops goes s p X t
     → StopsShort goes s p X t
-quiet_short adding (Stops.wants led want) = quiet_way adding led want
-quiet_short adding (Stops.fails by_fault led step cause) = StopsShort.fails by_fault led step cause
+quiet_short owing (Stops.wants led want) = quiet_way owing led want
+quiet_short owing (Stops.fails by_fault led step cause) = StopsShort.fails by_fault led step cause
 
 -- and what it performs it does
 pub does_quiet : {B A T : Type 0} (known : B → Known) (goes : B → Call → Answer → B → Type 0) (b c : B) (p : Program A) (give : T → A)
-    (r : Result T SessionError) → AddsNothing p → Plays known goes b p r give c → Does known goes b p r give c
-does_quiet known goes b c p give (Ok x) adding led = led
-does_quiet known goes b c p give (Err e) adding stop = quiet_short adding stop
+    (r : Result T SessionError) → OwesNothing p → Plays known goes b p r give c → Does known goes b p r give c
+does_quiet known goes b c p give (Ok x) owing led = led
+does_quiet known goes b c p give (Err e) owing stop = quiet_short owing stop

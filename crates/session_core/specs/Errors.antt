@@ -23,8 +23,8 @@ abbrev pub error_by : Bool → SessionError
 error_by true = error.StoreFault
 error_by false = error.NoMemory
 
--- WHICH ERROR AN ANSWERED CALL LEAVES: that of a failed one. Any other answer may find that memory is wanting for it, unless the call
--- was one whose answer is to be told whatever comes: an append.
-abbrev pub LeavesError : (appends : Bool) → Answer → SessionError → Type 0
-LeavesError appends (Answer.failed by_fault) e = e ≡ error_by by_fault
-LeavesError appends answer e = (e ≡ error.NoMemory) × (appends ≡ false)
+-- WHICH ERROR AN ANSWERED CALL LEAVES: that of a failed one. Memory may be wanting for an answer that is to be kept; any other is told,
+-- whatever is wanting.
+abbrev pub LeavesError : (kept : Bool) → Answer → SessionError → Type 0
+LeavesError kept (Answer.failed by_fault) e = e ≡ error_by by_fault
+LeavesError kept answer e = (e ≡ error.NoMemory) × (kept ≡ true)

@@ -69,10 +69,11 @@ event_call s a (next.Read address) = read address
 event_call s a (next.Prepare shard run) = prepare shard (in_shard a.shards shard (based a.snaps run.observations))
 event_call s a (next.Append run) = append (ready_of a run s.client s.seq)
 
--- whether an event is the last one, which adds a commit
-abbrev pub appends : Next → Bool
-appends (next.Append run) = true
-appends n = false
+-- whether an answer to an event is to be kept with its attempt: a value, or a front
+abbrev pub is_kept : Next → Answer → Bool
+is_kept (next.Read address) (snap s) = true
+is_kept (next.Prepare shard run) (prepared p) = true
+is_kept n answer = false
 
 -- the call of an attempt's next event
 abbrev pub call_of : Session → Attempt → Call

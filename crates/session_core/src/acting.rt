@@ -17,7 +17,7 @@ use crate::session::Session;
 use crate::turn::Turn;
 use crate::verbs::{begin, commit, give_up, go, step};
 use crate::watches::{sync, unwatch, wait, watch};
-use client_watches::ReplyList;
+use client_watches::{NewWatch, ReplyList};
 use dio_core::LONGEST_LINE;
 use docc_prepare::Backend;
 use session_text::Reply;
@@ -84,7 +84,9 @@ fn act<B: Backend, R: Rerunner>(
         Line::Drop => said(place, Ok(give_up(session))),
         Line::Look(body) => said(place, look(alloc, backend, session, None, &body)),
         Line::At(number, body) => said(place, look(alloc, backend, session, Some(number), &body)),
-        Line::Watch(name, body) => watch(alloc, backend, reruns, session, name, body),
+        Line::Watch(name, body) => {
+            watch(alloc, backend, reruns, session, NewWatch { name, body })
+        }
         Line::Unwatch(name) => unwatch(alloc, backend, session, &name),
         Line::Sync => sync(alloc, backend, reruns, session),
         Line::Wait => wait(alloc, backend, reruns, session),

@@ -61,7 +61,7 @@ pub fn drive<B: Backend>(
     let end = until_append(alloc, backend, session, &mut attempt)?;
     match end {
         Approach::End(reply) => Ok(reply),
-        Approach::Append(run, based) => append_last(alloc, backend, session, attempt, run, based),
+        Approach::Append(last) => append_last(alloc, backend, session, attempt, last),
     }
 }
 
@@ -83,7 +83,7 @@ fn attempt_once<B: Backend>(
     let end = until_append(alloc, backend, session, attempt)?;
     match end {
         Approach::End(reply) => Ok(reply),
-        Approach::Append(run, based) => append_event(alloc, backend, session, attempt, run, based),
+        Approach::Append(last) => append_event(alloc, backend, session, attempt, last),
     }
 }
 

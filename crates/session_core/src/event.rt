@@ -1,9 +1,6 @@
 //! One event of an attempt: the call that its next event is, and what the answer makes of it.
 
-ghost use Rattle.std.specs.Prelude.{◌≡◌, ℕ, Some, None, IfOk, OnOk, Ok, Err};
-ghost use Rattle.abort_witness.specs.declared.witness.Witness.{Witness};
-ghost use Rattle.session_text.specs.declared.reply.Reply.TheVariants as reply;
-ghost use Rattle.docc_prepare.specs.declared.backend.PrepareError.TheVariants as prepare_error;
+ghost use Rattle.std.specs.Prelude.{◌≡◌, Some, None, IfOk, OnOk, Err};
 ghost use Rattle.docc_prepare.specs.declared.attempt.Attempt.{Attempt};
 ghost use Rattle.docc_prepare.specs.Attempts.{in_shard, based, next_event, ready_of, with_front, KeepsPauses, Prepares};
 ghost use Rattle.docc_prepare.specs.Calls.{snap_answered, front_answered, commit_answered};
@@ -17,7 +14,7 @@ ghost use Rattle.session_core.specs.Verbs as verbs;
 ghost use Rattle.session_core.specs.Verbs.{was_read, was_prepared};
 ghost use Rattle.session_core.specs.Stopping.{Does};
 
-use crate::approach::Approach;
+use crate::approach::{Approach, LastRun};
 use crate::error::SessionError;
 use crate::moved::Moved;
 use crate::remembered::Remembered;
@@ -66,11 +63,6 @@ fn after_prepare(
     requires { Prepares attempt.old shard }
     ensures turned { Turned attempt.old (front_answered answer)
         (moved_on_prepare shard attempt.new result) }
-    // The replies take no memory, so they are answered whatever is wanting.
-    ensures late { (base horizon : ℕ) → answer ≡ Err (prepare_error.Late base horizon)
-        → result ≡ Ok (Err (reply.Late base horizon)) }
-    ensures clash { (w : Witness) → answer ≡ Err (prepare_error.Clash w)
-        → result ≡ Ok (Err (reply.Abort w)) }
     ensures pauses { IfOk result (λ front. OnOk front (KeepsPauses attempt.old attempt.new)) }
     ensures front { IfOk result (λ front. IfOk front (λ f.
         attempt.new ≡ with_front attempt.old shard f)) }
@@ -164,19 +156,17 @@ fn based_here(
 #[inline(always)]
 fn prepare_event<B: Backend>(
     backend: &mut B,
-    session: &Session,
     attempt: &mut Attempt,
     shard: u8,
     run: &Run,
     all: &BasedList,
 ) -> Result<Result<u64, Reply>, SessionError>
-    requires attends { Attends (B.known backend.old) (closed session.now) }
     requires holds { Holds (B.known backend.old) attempt.old }
     requires next { next_event attempt.old ≡ Next.Prepare shard run.now }
     requires all { all.now
         ≡ in_shard attempt.old.shards shard (based attempt.old.snaps run.now.observations) }
-    ensures plays { Does B.known B.goes backend.old (verbs.event session.now attempt.old) result
-        (was_prepared shard attempt.new) backend.new }
+    ensures plays { (s : Session) → Does B.known B.goes backend.old (verbs.event s attempt.old)
+        result (was_prepared shard attempt.new) backend.new }
     ensures pauses { IfOk result (λ front. OnOk front (KeepsPauses attempt.old attempt.new)) }
     ensures front { IfOk result (λ front. IfOk front (λ f.
         attempt.new ≡ with_front attempt.old shard f)) }
@@ -214,15 +204,15 @@ fn readied(
     alloc: Global,
     session: &Session,
     attempt: &Attempt,
-    run: Run,
-    based: Option<BasedList>,
+    last: LastRun,
 ) -> Result<Ready, SessionError>
-    requires next { next_event attempt.now ≡ Next.Append run }
-    requires based { AreAllOf attempt.now run based }
+    requires next { next_event attempt.now ≡ Next.Append last.run }
+    requires based { AreAllOf attempt.now last.run last.based }
     ensures ok { IfOk result (λ ready.
-        ready ≡ ready_of attempt.now run session.now.client session.now.seq) }
+        ready ≡ ready_of attempt.now last.run session.now.client session.now.seq) }
     ensures err { (e : SessionError) → result ≡ Err e → e ≡ SessionError.NoMemory }
 {
+    let LastRun { run, based } = last;
     let ready = match based {
         Some(all) => ready_with(session, attempt, run, all),
         None => attempt.ready(alloc, run, session.client, session.seq),
@@ -253,18 +243,17 @@ pub fn append_event<B: Backend>(
     backend: &mut B,
     session: &Session,
     attempt: &Attempt,
-    run: Run,
-    based: Option<BasedList>,
+    last: LastRun,
 ) -> Result<Reply, SessionError>
     requires attends { Attends (B.known backend.old) (closed session.now) }
     requires holds { Holds (B.known backend.old) attempt.now }
-    requires next { next_event attempt.now ≡ Next.Append run }
-    requires based { AreAllOf attempt.now run based }
+    requires next { next_event attempt.now ≡ Next.Append last.run }
+    requires based { AreAllOf attempt.now last.run last.based }
     ensures plays { Does B.known B.goes backend.old (verbs.event session.now attempt.now) result
         (Moved.End attempt.now) backend.new }
     ensures home { B.home backend.new ≡ B.home backend.old }
 {
-    let ready = readied(alloc, session, attempt, run, based)?;
+    let ready = readied(alloc, session, attempt, last)?;
     handed(backend, ready)
 }
 
@@ -292,18 +281,18 @@ fn last_readied(
     alloc: Global,
     session: &Session,
     attempt: Attempt,
-    run: Run,
-    based: Option<BasedList>,
+    last: LastRun,
 ) -> Result<Ready, SessionError>
-    requires next { next_event attempt ≡ Next.Append run }
-    requires based { AreAllOf attempt run based }
+    requires next { next_event attempt ≡ Next.Append last.run }
+    requires based { AreAllOf attempt last.run last.based }
     ensures ok { IfOk result (λ ready.
-        ready ≡ ready_of attempt run session.now.client session.now.seq) }
+        ready ≡ ready_of attempt last.run session.now.client session.now.seq) }
     ensures err { (e : SessionError) → result ≡ Err e → e ≡ SessionError.NoMemory }
 {
+    let LastRun { run, based } = last;
     match based {
         Some(all) => Ok(taken_apart(session, attempt, run, all)),
-        None => readied(alloc, session, &attempt, run, None),
+        None => readied(alloc, session, &attempt, LastRun { run, based: None }),
     }
 }
 
@@ -314,18 +303,17 @@ pub fn append_last<B: Backend>(
     backend: &mut B,
     session: &Session,
     attempt: Attempt,
-    run: Run,
-    based: Option<BasedList>,
+    last: LastRun,
 ) -> Result<Reply, SessionError>
     requires attends { Attends (B.known backend.old) (closed session.now) }
     requires holds { Holds (B.known backend.old) attempt }
-    requires next { next_event attempt ≡ Next.Append run }
-    requires based { AreAllOf attempt run based }
+    requires next { next_event attempt ≡ Next.Append last.run }
+    requires based { AreAllOf attempt last.run last.based }
     ensures plays { Does B.known B.goes backend.old (verbs.event session.now attempt) result
         (Moved.End attempt) backend.new }
     ensures home { B.home backend.new ≡ B.home backend.old }
 {
-    let ready = last_readied(alloc, session, attempt, run, based)?;
+    let ready = last_readied(alloc, session, attempt, last)?;
     handed(backend, ready)
 }
 
@@ -384,11 +372,12 @@ pub fn event_on<B: Backend>(
         }
         Next::Prepare(shard, run) => {
             let all = based_here(alloc, attempt, &run, shard)?;
-            match prepare_event(backend, session, attempt, shard, &run, &all)? {
+            match prepare_event(backend, attempt, shard, &run, &all)? {
                 Ok(_) => {
                     // One shard has all that was observed, so the append is next.
                     if all.len() == run.observations.len() {
-                        return Ok(Some(Approach::Append(run, Some(all))));
+                        let based = Some(all);
+                        return Ok(Some(Approach::Append(LastRun { run, based })));
                     }
                     known.ran = Some(run);
                     Ok(None)
@@ -396,7 +385,7 @@ pub fn event_on<B: Backend>(
                 Err(reply) => Ok(Some(Approach::End(reply))),
             }
         }
-        Next::Append(run) => Ok(Some(Approach::Append(run, None))),
+        Next::Append(run) => Ok(Some(Approach::Append(LastRun { run, based: None }))),
     }
 }
 
@@ -422,13 +411,14 @@ pub fn event<B: Backend>(
         }
         Next::Prepare(shard, run) => {
             let all = based_here(alloc, &attempt, &run, shard)?;
-            match prepare_event(backend, session, &mut attempt, shard, &run, &all)? {
+            match prepare_event(backend, &mut attempt, shard, &run, &all)? {
                 Ok(front) => Ok(Moved::More(attempt, Reply::Prepared(shard, front))),
                 Err(reply) => Ok(Moved::End(attempt, reply)),
             }
         }
         Next::Append(run) => {
-            let reply = append_event(alloc, backend, session, &attempt, run, None)?;
+            let last = LastRun { run, based: None };
+            let reply = append_event(alloc, backend, session, &attempt, last)?;
             Ok(Moved::End(attempt, reply))
         }
     }

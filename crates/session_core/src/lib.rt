@@ -14,6 +14,7 @@ mod body;
 mod driving;
 mod error;
 mod event;
+mod form;
 mod laws;
 mod limits;
 mod line;

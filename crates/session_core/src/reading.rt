@@ -1,99 +1,105 @@
 //! Reading a line: what it asks for.
 
-ghost use Rattle.std.specs.Prelude.{◌≡◌, ◌≤◌, length, false, true, IfOk};
+ghost use Rattle.std.specs.Prelude.{◌≡◌, ◌≤◌, length, IfOk, IfSome};
 ghost use Rattle.session_text.specs.Bodies.{IsWithin};
-ghost use Rattle.session_core.specs.declared.line.Line.TheVariants as asks;
 ghost use Rattle.session_core.specs.Lines as spec;
 ghost use Rattle.session_core.specs.Holding.{BodyIsReady, IsReady};
 ghost use Rattle.session_core.specs.code.Reading as code;
-ghost use Rattle.session_core.specs.code.Reading.{ReadsLine};
+ghost use Rattle.session_core.specs.code.Reading.{IsReadable, ReadsLine};
 
 use crate::body::body_or_why;
+use crate::form::{Form, Purpose};
 use crate::line::Line;
 use crate::words::{is_quiet, trimmed_start};
 use dio_core::LONGEST_LINE;
-use plain_data::Text;
 use session_text::{Verb, VerbError, Why, read_verb};
 use std::alloc::{AllocError, Global};
 use txn_lang::Checked;
 
-/// `begin`.
-fn begin(read: Result<Checked, Why>) -> Line
-    requires { IfOk read (λ checked. IsReady checked) }
-    ensures line { result ≡ spec.with_body asks.Begin read }
+/// Whether a body may only read.
+fn only_reads(purpose: &Purpose) -> bool
+    ensures { result ≡ code.only_reads purpose.now }
+{
+    match purpose {
+        Purpose::Begin | Purpose::Try(_) => false,
+        Purpose::Look | Purpose::At(_) | Purpose::Watch(_) => true,
+    }
+}
+
+/// The line of a body.
+fn line_with(purpose: Purpose, body: Checked) -> Line
+    requires { IsReady body }
+    ensures line { result ≡ code.line_with purpose body }
+    ensures ready { BodyIsReady result }
+{
+    match purpose {
+        Purpose::Begin => Line::Begin(body),
+        Purpose::Try(tries) => Line::Try(tries, body),
+        Purpose::Look => Line::Look(body),
+        Purpose::At(number) => Line::At(number, body),
+        Purpose::Watch(name) => Line::Watch(name, body),
+    }
+}
+
+/// The same, or the refusal of the body.
+fn with_body(purpose: Purpose, read: Result<Checked, Why>) -> Line
+    requires { IfOk read IsReady }
+    ensures line { result ≡ spec.with_body (code.line_with purpose) read }
     ensures ready { BodyIsReady result }
 {
     match read {
-        Ok(body) => Line::Begin(body),
+        Ok(body) => line_with(purpose, body),
         Err(reason) => Line::Refused(reason),
     }
 }
 
-/// `do` and `try`.
-fn try_times(tries: u8, read: Result<Checked, Why>) -> Line
-    requires { IfOk read (λ checked. IsReady checked) }
-    ensures line { result ≡ spec.with_body (asks.Try tries) read }
-    ensures ready { BodyIsReady result }
-{
-    match read {
-        Ok(body) => Line::Try(tries, body),
-        Err(reason) => Line::Refused(reason),
-    }
-}
-
-/// `look`.
-fn look(read: Result<Checked, Why>) -> Line
-    ensures line { result ≡ spec.with_body asks.Look read }
-    ensures ready { BodyIsReady result }
-{
-    match read {
-        Ok(body) => Line::Look(body),
-        Err(reason) => Line::Refused(reason),
-    }
-}
-
-/// `at`.
-fn look_at(number: u64, read: Result<Checked, Why>) -> Line
-    ensures line { result ≡ spec.with_body (asks.At number) read }
-    ensures ready { BodyIsReady result }
-{
-    match read {
-        Ok(body) => Line::At(number, body),
-        Err(reason) => Line::Refused(reason),
-    }
-}
-
-/// `watch`.
-fn watch(name: Text, read: Result<Checked, Why>) -> Line
-    ensures line { result ≡ spec.with_body (asks.Watch name) read }
-    ensures ready { BodyIsReady result }
-{
-    match read {
-        Ok(body) => Line::Watch(name, body),
-        Err(reason) => Line::Refused(reason),
-    }
-}
-
-/// What a verb asks for.
-fn of_verb(alloc: Global, verb: Verb) -> Result<Line, AllocError>
+/// The form of a verb.
+fn form_of_verb(verb: Verb) -> Form
     requires { IsWithin LONGEST_LINE verb }
-    ensures { ReadsLine result (spec.of_verb verb) }
+    ensures form { result ≡ code.form_of_verb verb }
+    ensures readable { IsReadable result }
 {
     match verb {
-        Verb::Begin(text) => Ok(begin(body_or_why(alloc, text, false)?)),
-        Verb::Do(text) => Ok(try_times(1, body_or_why(alloc, text, false)?)),
-        Verb::Try(tries, text) => Ok(try_times(tries, body_or_why(alloc, text, false)?)),
-        Verb::Look(text) => Ok(look(body_or_why(alloc, text, true)?)),
-        Verb::At(number, text) => Ok(look_at(number, body_or_why(alloc, text, true)?)),
-        Verb::Watch(name, text) => Ok(watch(name, body_or_why(alloc, text, true)?)),
-        Verb::Step => Ok(Line::Step),
-        Verb::Go => Ok(Line::Go),
-        Verb::Drop => Ok(Line::Drop),
-        Verb::Seen => Ok(Line::Seen),
-        Verb::Quit => Ok(Line::Quit),
-        Verb::Unwatch(name) => Ok(Line::Unwatch(name)),
-        Verb::Sync => Ok(Line::Sync),
-        Verb::Wait => Ok(Line::Wait),
+        Verb::Begin(text) => Form::WithBody(Purpose::Begin, text),
+        Verb::Do(text) => Form::WithBody(Purpose::Try(1), text),
+        Verb::Try(tries, text) => Form::WithBody(Purpose::Try(tries), text),
+        Verb::Look(text) => Form::WithBody(Purpose::Look, text),
+        Verb::At(number, text) => Form::WithBody(Purpose::At(number), text),
+        Verb::Watch(name, text) => Form::WithBody(Purpose::Watch(name), text),
+        Verb::Step => Form::Plain(Line::Step),
+        Verb::Go => Form::Plain(Line::Go),
+        Verb::Drop => Form::Plain(Line::Drop),
+        Verb::Seen => Form::Plain(Line::Seen),
+        Verb::Quit => Form::Plain(Line::Quit),
+        Verb::Unwatch(name) => Form::Plain(Line::Unwatch(name)),
+        Verb::Sync => Form::Plain(Line::Sync),
+        Verb::Wait => Form::Plain(Line::Wait),
+    }
+}
+
+/// The form of a line that has this verb, or is refused since it has none's form.
+fn form_of(verb: Option<Verb>) -> Form
+    requires { IfSome verb (IsWithin LONGEST_LINE) }
+    ensures form { result ≡ code.form_of verb }
+    ensures readable { IsReadable result }
+{
+    match verb {
+        Some(verb) => form_of_verb(verb),
+        None => Form::Plain(Line::Refused(Why::Verb)),
+    }
+}
+
+/// What a line of a form asks for.
+fn line_of_form(alloc: Global, form: Form) -> Result<Line, AllocError>
+    requires { IsReadable form }
+    ensures { ReadsLine result (code.line_of_form form) }
+{
+    match form {
+        Form::Plain(line) => Ok(line),
+        Form::WithBody(purpose, text) => {
+            let read = body_or_why(alloc, text, only_reads(&purpose))?;
+            Ok(with_body(purpose, read))
+        }
     }
 }
 
@@ -116,8 +122,6 @@ pub fn read_line(alloc: Global, bytes: &[u8]) -> Result<Line, AllocError>
     if is_quiet(trimmed_start(bytes)) {
         return Ok(Line::Quiet);
     }
-    match verb_of(read_verb(alloc, bytes))? {
-        Some(verb) => of_verb(alloc, verb),
-        None => Ok(Line::Refused(Why::Verb)),
-    }
+    let verb = verb_of(read_verb(alloc, bytes))?;
+    line_of_form(alloc, form_of(verb))
 }

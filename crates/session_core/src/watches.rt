@@ -9,11 +9,10 @@ ghost use Rattle.session_core.specs.Verbs.{Plays};
 use crate::error::SessionError;
 use crate::session::Session;
 use crate::turn::Turn;
-use client_watches::{ReplyList, WatchError};
+use client_watches::{NewWatch, ReplyList, WatchError};
 use docc_prepare::Backend;
 use plain_data::Text;
 use std::alloc::Global;
-use txn_lang::Checked;
 use watch_reruns::Rerunner;
 
 /// The turn of a line of watches.
@@ -33,19 +32,15 @@ pub fn watch<B: Backend, R: Rerunner>(
     backend: &mut B,
     reruns: &R,
     session: &mut Session,
-    name: Text,
-    body: Checked,
+    new_watch: NewWatch,
 ) -> Result<Turn, SessionError>
     requires { Attends (B.known backend.old) session.old }
-    ensures plays { Plays B.known B.goes backend.old (programs.watch session.old name body) result
+    ensures plays { Plays B.known B.goes backend.old
+        (programs.watch session.old new_watch.name new_watch.body) result
         (λ turn. (session.new, turn)) backend.new }
     ensures home { B.home backend.new ≡ B.home backend.old }
 {
-    turned(
-        session
-            .watching
-            .watch_by(alloc, backend, reruns, name, body),
-    )
+    turned(session.watching.watch_by(alloc, backend, reruns, new_watch))
 }
 
 /// `unwatch`.

@@ -1,7 +1,6 @@
 -- What functions do that bring an attempt up to its append, and what hands it to the journal.
-use Rattle.std.specs.Prelude.{◌≡◌, ℕ, suc, List, Option, Some, None, Result, Ok, Err}
+use Rattle.std.specs.Prelude.{◌≡◌, ℕ, suc, Option, Some, None, Result, Ok, Err}
 use Rattle.session_text.specs.declared.reply.Reply.{Reply}
-use Rattle.abort_witness.specs.declared.witness.Based.{Based}
 use Rattle.txn_lang.specs.declared.run.Run.{Run}
 use Rattle.journal_core.specs.declared.ready.Ready.{Ready}
 use Rattle.docc_prepare.specs.declared.attempt.Attempt.{Attempt}
@@ -10,6 +9,7 @@ use Rattle.docc_prepare.specs.Attempts.{next_event, ready_of}
 use Rattle.docc_prepare.specs.Calls.{Known, Call, Answer}
 use Rattle.docc_prepare.specs.Backends.{Goes}
 use Rattle.call_programs.specs.Programs.{Program, Leads}
+use Rattle.session_core.specs.declared.approach.LastRun.{LastRun}
 use Rattle.session_core.specs.declared.approach.Approach.{Approach}
 use Rattle.session_core.specs.declared.approach.Approach.TheVariants as approach
 use Rattle.session_core.specs.declared.error.SessionError.{SessionError}
@@ -45,23 +45,23 @@ abbrev pub Nears : {B : Type 0} → (B → Known) → (B → Call → Answer →
     → Attempt → Type 0
 Nears known goes s b a (Ok None) c on = Leads (Goes known goes) b (event_on s a) c (Program.ends (on, None))
 Nears known goes s b a (Ok (Some (approach.End r))) c on = Leads (Goes known goes) b (event_on s a) c (Program.ends (on, Some r))
-Nears known goes s b a (Ok (Some (approach.Append run based))) c on =
-    OneAtMost known goes s b a c on × ((next_event on ≡ next.Append run) × AreAllOf on run based)
+Nears known goes s b a (Ok (Some (approach.Append last))) c on =
+    OneAtMost known goes s b a c on × ((next_event on ≡ next.Append last.run) × AreAllOf on last.run last.based)
 Nears known goes s b a (Err e) c on = StopsShort (Goes known goes) b (event_on s a) (e ≡ error.StoreFault) c
 
 -- the append of a run is next, by which the attempt ends
-pub record IsNext {B : Type 0} (known : B → Known) (goes : B → Call → Answer → B → Type 0) (s : Session) (b : B) (a : Attempt) (run : Run)
-    (based : Option (List Based)) (c : B) (on : Attempt) : Type 0 where
+pub record IsNext {B : Type 0} (known : B → Known) (goes : B → Call → Answer → B → Type 0) (s : Session) (b : B) (a : Attempt) (last : LastRun)
+    (c : B) (on : Attempt) : Type 0 where
   pub left : ℕ
   pub led : Leads (Goes known goes) b (drive s a) c (drive_in (suc left) s on)
   pub attends : Attends (known c) (closed s)
   pub holds : Holds (known c) on
-  pub next : next_event on ≡ next.Append run
-  pub all : AreAllOf on run based
+  pub next : next_event on ≡ next.Append last.run
+  pub all : AreAllOf on last.run last.based
 
 -- EVENTS UNTIL THE APPEND is next, or the attempt has ended
 abbrev pub Approaches : {B : Type 0} → (B → Known) → (B → Call → Answer → B → Type 0) → Session → B → Attempt → Result Approach SessionError → B
     → Attempt → Type 0
 Approaches known goes s b a (Ok (approach.End r)) c on = Leads (Goes known goes) b (drive s a) c (Program.ends (on, r))
-Approaches known goes s b a (Ok (approach.Append run based)) c on = IsNext known goes s b a run based c on
+Approaches known goes s b a (Ok (approach.Append last)) c on = IsNext known goes s b a last c on
 Approaches known goes s b a (Err e) c on = StopsShort (Goes known goes) b (drive s a) (e ≡ error.StoreFault) c

@@ -18,14 +18,14 @@ use Rattle.session_core.specs.declared.turn.Turn.{Turn}
 use Rattle.session_core.specs.declared.turn.Turn.TheVariants as turn
 use Rattle.client_watches.specs.declared.error.WatchError.{WatchError}
 use Rattle.session_core.specs.Errors.{of_watch_error, LeavesError}
-use Rattle.session_core.specs.Events.{appends, moved_by, said}
+use Rattle.session_core.specs.Events.{is_kept, moved_by, said}
 
 -- ---- one event
 
 -- what an answered event comes to: what the answer makes of the attempt, or an error
 abbrev pub Turned : Attempt → Answer → Result Moved SessionError → Type 0
 Turned a answer (Ok m) = moved_by a answer ≡ Some m
-Turned a answer (Err e) = LeavesError (appends (next_event a)) answer e
+Turned a answer (Err e) = LeavesError (is_kept (next_event a) answer) answer e
 
 -- a result of one event as what it makes of the attempt: a read, which shows its base, a preparing, and an append
 abbrev pub moved_on_read : Address → Attempt → Result ℕ SessionError → Result Moved SessionError
@@ -56,12 +56,17 @@ is_abort r = false
 
 -- ---- looks
 
+-- whether an answer is a value, which is to be kept
+abbrev pub is_value : Answer → Bool
+is_value (Answer.value v) = true
+is_value answer = false
+
 -- what an answered read at a number comes to: a value more, or a reply, or an error
 abbrev pub Valued : SnapList → Address → ℕ → Answer → Result (Option Reply) SessionError → SnapList → Type 0
 Valued old address n (Answer.value v) (Ok None) new = new ≡ insert_entry address_cmp old address (record { base = n; value = v })
 Valued old address n (Answer.late m horizon) (Ok (Some r)) new = r ≡ reply.Late m horizon
 Valued old address n answer (Ok o) new = ⊥
-Valued old address n answer (Err e) new = LeavesError false answer e
+Valued old address n answer (Err e) new = LeavesError (is_value answer) answer e
 
 -- ---- turns
 

@@ -4,20 +4,20 @@ use Rattle.diamond_store.proofs.Told.{tells-later, tells-registered, told-alread
 use Rattle.diamond_store.proofs.feeder.register.Goals as goal
 
 pub returns-then-has-clause-told : goal.returns-then-has-clause-told
-returns-then-has-clause-told g c = λ a. told-already c.args.registry.now c.args.client c.args.address.now a (sym c.has.ensures ∙ c.if-has.true)
+returns-then-has-clause-told g c = λ a. told-already c.args.post.now.registry c.args.taker.now.client c.args.address.now a (sym c.has.ensures ∙ c.if-has.true)
 
 pub returns-in_err-missed-clause-tells : goal.returns-in_err-missed-clause-tells
 returns-in_err-missed-clause-tells g c =
     let t = c.tail_at in
-    tells-later c.args.token.now.seen t.new.token.seen t.ensures.later.seen
-    (lawful-sound g.N.Naming.lock.base t.new.token.seen t.ensures.lawful).orderly.numbered c.args.registry.now c.requires.tells
+    tells-later c.args.post.now.token.seen t.new.token.seen t.ensures.later.seen
+    (lawful-sound g.N.Naming.lock.base t.new.token.seen t.ensures.lawful).orderly.numbered c.args.post.now.registry c.requires.tells
 
 pub returns-clause-tells : goal.returns-clause-tells
 returns-clause-tells g c =
     let t = c.tail_at in
     let seen = t.new.token.seen in
     let numbered = (lawful-sound g.N.Naming.lock.base seen t.ensures.lawful).orderly.numbered in
-    tells-registered seen c.args.registry.now c.subscribe.new.self c.args.client c.args.taken c.args.address.now
-    (tells-later c.args.token.now.seen seen t.ensures.later.seen numbered c.args.registry.now c.requires.tells)
-    c.requires.taken c.subscribe.ensures.front c.subscribe.result c.in_ok-missed.missed c.front-front.result c.front-front.ensures
+    tells-registered seen c.args.post.now.registry c.subscribe.new.self c.args.taker.now.client c.args.taker.now.taken c.args.address.now
+    (tells-later c.args.post.now.token.seen seen t.ensures.later.seen numbered c.args.post.now.registry c.requires.tells)
+    c.requires.taken c.subscribe.ensures.front c.subscribe.result c.in_ok-missed.missed c.front.result c.front.ensures
     c.in_ok-missed.ensures.tail c.subscribe.ensures.ok c.subscribe.ensures.err

@@ -9,9 +9,9 @@ use Rattle.diamond_store.proofs.feeder.register_all.Given as goal
 -- each address is told already or is left
 abbrev pub invariant-loop-address : goal.invariant-loop-address
 invariant-loop-address g l = record {
-  begins : IsPrefix l.fn.token.seen l.token.seen;
-  tells : Tells l.token.seen l.registry;
-  front : l.registry.front ≡ l.fn.registry.front;
-  taken : taken_of l.registry l.fn.client ≡ Some l.fn.taken;
-  told : (a : Address) → is_in l.fn.addresses.keys a ≡ true → (is_subscribed l.registry l.fn.client a || is_in l.address-iterator a) ≡ true;
+  begins : IsPrefix l.fn.post.token.seen l.post.token.seen;
+  tells : Tells l.post.token.seen l.post.registry;
+  front : l.post.registry.front ≡ l.fn.post.registry.front;
+  taken : taken_of l.post.registry l.fn.taker.client ≡ Some l.fn.taker.taken;
+  told : (a : Address) → is_in l.fn.taker.addresses.now.keys a ≡ true → (is_subscribed l.post.registry l.fn.taker.client a || is_in l.address-iterator a) ≡ true;
 }

@@ -20,5 +20,5 @@ returns-clause-relays g c =
     let within = c.requires.within in
     relays-followed c.follow.result seen c.args.relay.now c.follow.new.self c.in_ok-tail.tail numbered
     (relays-later c.args.token.now.seen seen t.ensures.later.seen numbered c.args.relay.now c.requires.relays)
-    (tail-is-next seen c.args.relay.now c.to.result c.args.to c.in_ok-tail.tail c.in_ok-tail.ensures.tail c.to.ensures (omega arith))
+    (tail-is-next seen c.args.relay.now c.to-from.result c.args.to c.in_ok-tail.tail c.in_ok-tail.ensures.tail c.to-from.ensures (omega arith))
     c.follow.ensures.ok c.follow.ensures.err

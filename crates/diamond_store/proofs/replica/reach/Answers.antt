@@ -1,15 +1,13 @@
-use Rattle.std.proofs.Common.{ap, subst}
-use mathlib.Core.List.{IsPrefix}
-use Rattle.history_lock.specs.declared.known.Known.{Known}
-use Rattle.txn_lang.specs.declared.commit.Commit.{Commit}
-use Rattle.txn_lang.specs.States.{Journal}
 use Rattle.diamond_store.proofs.Decided.{on_ok}
 use Rattle.diamond_store.proofs.Followed.{replicates-later}
 use Rattle.diamond_store.proofs.replica.reach.Goals as goal
 
+pub follow-followed-requires-clause-holds : goal.follow-followed-requires-clause-holds
+follow-followed-requires-clause-holds g c =
+    replicates-later g.N.Naming.lock.origin c.args.post.now.token.seen c.teach.new.other.seen c.args.post.now.place c.args.post.now.shard
+    c.requires.holds c.teach.ensures.begins
+
 pub returns-clause-told : goal.returns-clause-told
 returns-clause-told g c =
-    let shown = ap (λ (k : Known Commit). k.seen) c.split-copy-2.ensures.copy in
-    on_ok c.follow-followed.result _ (replicates-later g.N.Naming.lock.origin c.follow-followed.new.token.seen c.meet-2.new.mine.seen c.args.place
-    c.follow-followed.new.shard c.follow-followed.ensures.replicates
-    (subst (λ (j : Journal). IsPrefix j c.meet-2.new.mine.seen) shown c.meet-2.ensures.begins_other))
+    on_ok c.follow-followed.result _ (replicates-later g.N.Naming.lock.origin c.follow-followed.new.post.token.seen c.teach-2.new.other.seen
+    c.args.post.now.place c.follow-followed.new.post.shard c.follow-followed.ensures.holds c.teach-2.ensures.knows)

@@ -1,17 +1,17 @@
-use Rattle.std.proofs.Common.{◌≡◌, take, Err, subst}
-use Rattle.version_shard.specs.declared.at_error.AtError.TheVariants as at_error
-use Rattle.version_shard.specs.Validating.{ReadsAt}
-use Rattle.diamond_store.proofs.Validated.{back-value, back-late}
+use Rattle.std.proofs.Common.{◌≤◌, take, IfOk, OnErr, sym, subst}
+use Rattle.version_shard.specs.Shards.{horizon}
+use Rattle.diamond_store.specs.Reading.{ReadsBack}
+use Rattle.diamond_store.proofs.Validated.{back-told, back-wanted}
 use Rattle.diamond_store.proofs.replica.value_at.Goals as goal
 
-pub returns-in-Ok : goal.returns-in-Ok
-returns-in-Ok c journal within holds =
-    back-value journal c.args.shard.now c.args.address.now c.args.number c.in-Ok.value c.requires.within
-    (c.in-Ok.ensures (take c.args.shard.now.front journal) holds)
+pub returns-clause-reads : goal.returns-clause-reads
+returns-clause-reads c = λ journal within holds.
+    let s = c.args.shard.now in
+    subst (λ t. IfOk t (ReadsBack journal s.window c.args.address.now c.args.number)) (sym c.value_told.ensures)
+    (back-told journal s c.args.address.now c.args.number c.requires.within within c.read_at-answer.result
+    (c.read_at-answer.ensures (take s.front journal) holds))
 
-pub returns-in-Err-Late : goal.returns-in-Err-Late
-returns-in-Err-Late c journal within holds =
-    let same : c.in-Err-Late.field-0 ≡ at_error.Late c.in-Err-Late.number c.in-Err-Late.horizon = (let is = c.in-Err-Late.field-0-is in cc) in
-    back-late journal c.args.shard.now c.args.address.now c.args.number c.in-Err-Late.number c.in-Err-Late.horizon within
-    (subst (λ e. ReadsAt (take c.args.shard.now.front journal) c.args.shard.now c.args.address.now c.args.number (Err e)) same
-    (c.in-Err-Late.ensures (take c.args.shard.now.front journal) holds))
+pub returns-clause-err : goal.returns-clause-err
+returns-clause-err c = λ journal holds.
+    subst (λ t. OnErr t (horizon c.args.shard.now ≤ c.args.number)) (sym c.value_told.ensures)
+    (back-wanted journal c.args.shard.now c.args.address.now c.args.number c.read_at-answer.result (c.read_at-answer.ensures journal holds))

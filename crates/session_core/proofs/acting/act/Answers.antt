@@ -9,7 +9,7 @@ use Rattle.session_core.specs.LinePrograms.{line_over}
 use Rattle.session_core.specs.Stopping.{StopsShort}
 use Rattle.session_core.specs.Verbs.{says}
 use Rattle.session_core.proofs.Performing.{no_fault}
-use Rattle.session_core.proofs.Quiet.{watches_add, wait_adds, looks_add}
+use Rattle.session_core.proofs.Quiet.{watches_owe, wait_owes, looks_owe}
 use Rattle.session_core.proofs.Stopping.{does_fail, does_of, does_made, does_quiet, said_does}
 use Rattle.session_core.proofs.acting.act.Goals as goal
 
@@ -55,33 +55,33 @@ returns-in-Look-clause-plays g c =
     does_of _ _ _ _ _ c.said-in-Look.result (ap (line_over (g.B.Backend.known c.args.backend.now) c.args.session.now) c.in-Look.is)
     (said_does _ _ _ _ _ c.look.result c.said-in-Look.result c.args.session.now c.said-in-Look.ensures
     (does_made _ _ _ _ _ _ (λ reply. (c.args.session.now, said reply)) c.look.result
-    (does_quiet _ _ _ _ _ _ c.look.result (looks_add None c.in-Look.body) c.look.ensures.plays)))
+    (does_quiet _ _ _ _ _ _ c.look.result (looks_owe None c.in-Look.body) c.look.ensures.plays)))
 
 pub returns-in-At-clause-plays : goal.returns-in-At-clause-plays
 returns-in-At-clause-plays g c =
     does_of _ _ _ _ _ c.said-in-At.result (ap (line_over (g.B.Backend.known c.args.backend.now) c.args.session.now) c.in-At.is)
     (said_does _ _ _ _ _ c.look-in-At.result c.said-in-At.result c.args.session.now c.said-in-At.ensures
     (does_made _ _ _ _ _ _ (λ reply. (c.args.session.now, said reply)) c.look-in-At.result
-    (does_quiet _ _ _ _ _ _ c.look-in-At.result (looks_add (Some c.in-At.number) c.in-At.body) c.look-in-At.ensures.plays)))
+    (does_quiet _ _ _ _ _ _ c.look-in-At.result (looks_owe (Some c.in-At.number) c.in-At.body) c.look-in-At.ensures.plays)))
 
 pub returns-in-Watch-clause-plays : goal.returns-in-Watch-clause-plays
 returns-in-Watch-clause-plays g c =
     does_of _ _ _ _ _ c.watch.result (ap (line_over (g.B.Backend.known c.args.backend.now) c.args.session.now) c.in-Watch.is)
-    (does_quiet _ _ _ _ _ _ c.watch.result (watches_add c.args.session.now (WatchLine.watch c.in-Watch.name c.in-Watch.body)) c.watch.ensures.plays)
+    (does_quiet _ _ _ _ _ _ c.watch.result (watches_owe c.args.session.now (WatchLine.watch c.in-Watch.name c.in-Watch.body)) c.watch.ensures.plays)
 
 pub returns-in-Unwatch-clause-plays : goal.returns-in-Unwatch-clause-plays
 returns-in-Unwatch-clause-plays g c =
     does_of _ _ _ _ _ c.unwatch.result (ap (line_over (g.B.Backend.known c.args.backend.now) c.args.session.now) c.in-Unwatch.is)
-    (does_quiet _ _ _ _ _ _ c.unwatch.result (watches_add c.args.session.now (WatchLine.unwatch c.in-Unwatch.name)) c.unwatch.ensures.plays)
+    (does_quiet _ _ _ _ _ _ c.unwatch.result (watches_owe c.args.session.now (WatchLine.unwatch c.in-Unwatch.name)) c.unwatch.ensures.plays)
 
 pub returns-in-Sync-clause-plays : goal.returns-in-Sync-clause-plays
 returns-in-Sync-clause-plays g c =
-    does_of _ _ _ _ _ c.sync.result (ap (line_over (g.B.Backend.known c.args.backend.now) c.args.session.now) c.in-Sync.is) (does_quiet _ _ _ _ _ _ c.sync.result (watches_add c.args.session.now WatchLine.sync) c.sync.ensures.plays)
+    does_of _ _ _ _ _ c.sync.result (ap (line_over (g.B.Backend.known c.args.backend.now) c.args.session.now) c.in-Sync.is) (does_quiet _ _ _ _ _ _ c.sync.result (watches_owe c.args.session.now WatchLine.sync) c.sync.ensures.plays)
 
 pub returns-in-Wait-clause-plays : goal.returns-in-Wait-clause-plays
 returns-in-Wait-clause-plays g c =
     does_of _ _ _ _ _ c.wait.result (ap (line_over (g.B.Backend.known c.args.backend.now) c.args.session.now) c.in-Wait.is)
-    (does_quiet _ _ _ _ _ _ c.wait.result (wait_adds (g.B.Backend.known c.args.backend.now).seen c.args.session.now) c.wait.ensures.plays)
+    (does_quiet _ _ _ _ _ _ c.wait.result (wait_owes (g.B.Backend.known c.args.backend.now).seen c.args.session.now) c.wait.ensures.plays)
 
 pub returns-in-Seen-clause-plays : goal.returns-in-Seen-clause-plays
 returns-in-Seen-clause-plays g c =

@@ -11,9 +11,9 @@ use Rattle.session_core.proofs.event.append_last.Goals as goal
 
 pub handed-requires : goal.handed-requires
 handed-requires g c =
-    let e : c.in_ok-ready.ready ≡ ready_of c.args.attempt c.args.run c.args.session.now.client c.args.session.now.seq = c.in_ok-ready.ensures.ok in
+    let e : c.in_ok-ready.ready ≡ ready_of c.args.attempt c.args.last.run c.args.session.now.client c.args.session.now.seq = c.in_ok-ready.ensures.ok in
     subst (CanAppend (g.B.Backend.known c.args.backend.now)) (sym e)
-    (can-append (g.B.Backend.known c.args.backend.now) (closed c.args.session.now) c.args.attempt c.args.run c.requires.attends c.requires.holds
+    (can-append (g.B.Backend.known c.args.backend.now) (closed c.args.session.now) c.args.attempt c.args.last.run c.requires.attends c.requires.holds
     c.requires.next)
 
 pub returns-in_err-ready-clause-plays : goal.returns-in_err-ready-clause-plays
@@ -24,4 +24,4 @@ returns-in_err-ready-clause-plays g c =
 pub returns-clause-plays : goal.returns-clause-plays
 returns-clause-plays g c =
     c.handed.ensures.plays c.args.session.now c.args.attempt
-    (record { run = c.args.run; next = c.requires.next; is = c.in_ok-ready.ensures.ok })
+    (record { run = c.args.last.run; next = c.requires.next; is = c.in_ok-ready.ensures.ok })

@@ -36,17 +36,17 @@ returns-in_err-all-in-Prepare-clause-plays g c =
 pub returns-in_err-front-in-Prepare-clause-plays : goal.returns-in_err-front-in-Prepare-clause-plays
 returns-in_err-front-in-Prepare-clause-plays g c =
     does_fail _ c.from_residual-in_err-front-in-Prepare.result c.from_residual-in_err-front-in-Prepare.ensures.1
-    c.in_err-front-in-Prepare.ensures.plays
+    (c.in_err-front-in-Prepare.ensures.plays c.args.session.now)
 
 pub returns-in-Ok-clause-plays : goal.returns-in-Ok-clause-plays
 returns-in-Ok-clause-plays g c =
     to_same (ap (λ front. Program.ends (was_prepared c.in-Prepare.shard c.prepare_event.new.attempt front)) c.in-Ok.is)
-    c.in_ok-front-in-Prepare.ensures.plays
+    (c.in_ok-front-in-Prepare.ensures.plays c.args.session.now)
 
 pub returns-in-Prepare-clause-plays : goal.returns-in-Prepare-clause-plays
 returns-in-Prepare-clause-plays g c =
     to_same (ap (λ front. Program.ends (was_prepared c.in-Prepare.shard c.prepare_event.new.attempt front)) c.in-Err.is)
-    c.in_ok-front-in-Prepare.ensures.plays
+    (c.in_ok-front-in-Prepare.ensures.plays c.args.session.now)
 
 pub returns-in_err-reply-in-Append-clause-plays : goal.returns-in_err-reply-in-Append-clause-plays
 returns-in_err-reply-in-Append-clause-plays g c =

@@ -33,12 +33,12 @@ returns-in_err-all-in-Prepare-clause-nears g c =
 pub returns-in_err-prepare_event-in-Prepare-clause-nears : goal.returns-in_err-prepare_event-in-Prepare-clause-nears
 returns-in_err-prepare_event-in-Prepare-clause-nears g c =
     nears_fail c.args.session.now _ _ c.from_residual-in_err-prepare_event-in-Prepare.result c.from_residual-in_err-prepare_event-in-Prepare.ensures.1
-    (short_in quiet c.in_err-prepare_event-in-Prepare.ensures.plays)
+    (short_in quiet (c.in_err-prepare_event-in-Prepare.ensures.plays c.args.session.now))
 
 pub returns-then-len-clause-nears : goal.returns-then-len-clause-nears
 returns-then-len-clause-nears g c =
     whole_near c.args.session.now c.in-Prepare.shard c.in-Ok.field-0 c.in-Prepare.run' c.in_ok-all-in-Prepare.all
-    (bound quiet c.in_ok-prepare_event-in-Prepare.ensures.plays
+    (bound quiet (c.in_ok-prepare_event-in-Prepare.ensures.plays c.args.session.now)
     (here (ap (λ front. quiet (was_prepared c.in-Prepare.shard c.prepare_event.new.attempt front)) c.in-Ok.is)))
     (sym c.in_ok-address.ensures.ok ∙ c.in-Prepare.is) c.in_ok-all-in-Prepare.ensures.ok
     (subst (λ (r : Result ℕ Reply). IfOk r (λ f. c.prepare_event.new.attempt ≡ with_front c.args.attempt.now c.in-Prepare.shard f)) c.in-Ok.is
@@ -47,12 +47,12 @@ returns-then-len-clause-nears g c =
 
 pub returns-else-len-clause-nears : goal.returns-else-len-clause-nears
 returns-else-len-clause-nears g c =
-    bound quiet c.in_ok-prepare_event-in-Prepare.ensures.plays
+    bound quiet (c.in_ok-prepare_event-in-Prepare.ensures.plays c.args.session.now)
     (here (ap (λ front. quiet (was_prepared c.in-Prepare.shard c.prepare_event.new.attempt front)) c.in-Ok.is))
 
 pub returns-in-Err-clause-nears : goal.returns-in-Err-clause-nears
 returns-in-Err-clause-nears g c =
-    bound quiet c.in_ok-prepare_event-in-Prepare.ensures.plays
+    bound quiet (c.in_ok-prepare_event-in-Prepare.ensures.plays c.args.session.now)
     (here (ap (λ front. quiet (was_prepared c.in-Prepare.shard c.prepare_event.new.attempt front)) c.in-Err.is))
 
 pub returns-in-Append-clause-nears : goal.returns-in-Append-clause-nears

@@ -21,7 +21,7 @@ pub returns-clause-plays : goal.returns-clause-plays
 returns-clause-plays g c =
     let e : c.args.all.now ≡ in_shard c.args.attempt.now.shards c.args.shard (based c.args.attempt.now.snaps c.args.run.now.observations)
     = c.requires.all in
-    prepare_does c.args.session.now c.args.attempt.now (next.Prepare c.args.shard c.args.run.now) c.requires.next
+    λ s. prepare_does s c.args.attempt.now (next.Prepare c.args.shard c.args.run.now) c.requires.next
     (subst (λ (bs : List Based). Goes g.B.Backend.known g.B.Backend.goes c.args.backend.now (prepare c.args.shard bs)
     (front_answered c.prepare-answer.result) c.prepare-answer.new.self) e c.prepare-answer.ensures.goes)
     c.args.shard c.after_prepare.new.attempt c.after_prepare.result c.after_prepare.ensures.turned
