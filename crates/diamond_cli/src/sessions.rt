@@ -83,7 +83,8 @@ fn serve_over<
         (λ list. list ≡ served.commits)) }
     ensures home { IfOk result (λ served. K.home served.keeper ≡ home_in opened.lock.origin) }
 {
-    let (rt, settings) = (service.rt, &service.settings);
+    let rt = service.rt;
+    let settings = &service.settings;
     let (store, mut pass) = begun::<K, N, R>(rt, alloc, settings, opened, service.relayed)?;
     let serving = Serving {
         store: &store,
