@@ -23,7 +23,7 @@ use Rattle.diamond_store.specs.Passes.{Passed, known_of}
 use Rattle.session_core.specs.Explained.{setting_of}
 use Rattle.script_runner.specs.Script.{Writing}
 use Rattle.script_runner.specs.declared.status.TheConstants.{NO_MEMORY}
-use Rattle.diamond_server.specs.Accounts.{Gatherings, AllServed, AreEnded}
+use Rattle.diamond_server.specs.Accounts.{Gatherings, AllServed}
 use Rattle.diamond_server.specs.Ways.{Promising}
 use Rattle.diamond_server.specs.declared.serving_all.Tally.{Tally}
 use Rattle.diamond_cli.specs.Serving.{promised_of, HasServed, EndsLinks, ending, IsEnded, ServesLinks}
@@ -126,10 +126,6 @@ module _ {L : Type 0} (Promised : Promising) (told : L → Both) (settings : Set
 -- ---- links that have ended
 
 module _ {L : Type 0} (ended : L → Option Bool) (g : Gatherings L) where
-  -- whatever the status
-  pub ends-always : (status : ℕ) → AreEnded ended g.given g.given_then → EndsLinks ended g status
-  ends-always status are = λ no. are
-
   -- for want of memory nothing is said of them
   pub ends-unsaid : EndsLinks ended g NO_MEMORY
   ends-unsaid = λ no. absurd (no refl)

@@ -9,7 +9,7 @@ use Rattle.diamond_cli.proofs.Asked.{spelled-wanting, unread-nothing, unread-sta
 use Rattle.diamond_cli.proofs.Auditing.{no-memory, audits-unread}
 use Rattle.diamond_cli.proofs.Reached.{unreached}
 use Rattle.diamond_cli.proofs.Recovered.{refused-serves}
-use Rattle.diamond_cli.proofs.Served.{unended-serves, ends-unsaid}
+use Rattle.diamond_cli.proofs.Served.{unended-serves}
 use Rattle.commit_file.specs.declared.recover_error.RecoverError.TheVariants as error
 use Rattle.diamond_cli.proofs.top.diamond.Goals as goal
 
@@ -331,7 +331,7 @@ returns-clause-serve g c = λ asks.
       wire = asks.3;
       asked = asks.4;
       promises = unended-serves _ _ asks.0 asks.2 _ _ refl refl;
-      ends = ends-unsaid _ _;
+      ends = λ no. absurd (no refl);
     }
 
 pub returns-clause-files : goal.returns-clause-files
@@ -344,7 +344,7 @@ returns-clause-files g c = λ asks.
       wire = asks.4;
       asked = asks.5;
       promises = refused-serves _ _ asks.0 asks.2 _ _ _ error.NoMemory (refl, refl);
-      ends = ends-unsaid _ _;
+      ends = λ no. absurd (no refl);
     }
 
 pub returns-clause-audit : goal.returns-clause-audit
