@@ -136,23 +136,35 @@ fn file_of(disk: &MemDisk) -> Result<Text, AllocError> {
     disk.image(disk.calls(), Torn::New)
 }
 
-/// What the audit of a file comes to, where it isn't this status and this text, or where the file was changed.
+/// A file, and the calls of its disk that fail.
+#[derive(Clone, Copy)]
+pub(crate) struct Stored<'a> {
+    pub(crate) file: &'a [u8],
+    pub(crate) fails: &'a [u64],
+}
+
+/// With which status an audit is to end, and what it is to write.
+#[derive(Clone, Copy)]
+pub(crate) struct Ending<'a> {
+    pub(crate) status: u8,
+    pub(crate) text: &'a [u8],
+}
+
+/// What the audit of a file comes to, where it doesn't end so, or where the file was changed.
 pub(crate) fn audit_file<R: Threads + Wait + Sync>(
     threads: &R,
     alloc: Global,
-    file: &[u8],
-    fails: &[u64],
+    stored: Stored<'_>,
     at: Option<&str>,
-    status: u8,
-    wanted: &[u8],
+    wanted: Ending<'_>,
 ) -> Result<Option<Found>, AllocError> {
-    let mut disk = MemDisk::new(alloc, file, fails)?;
+    let mut disk = MemDisk::new(alloc, stored.file, stored.fails)?;
     let mut sink = MemSink::new(alloc, 16, &[])?;
-    let found = run(threads, alloc, &mut disk, at, &mut sink)?;
-    if found != status || sink.taken() != wanted {
-        return Ok(Some(Found::Ended(found, Text::from_slice(alloc, sink.taken())?)));
+    let status = run(threads, alloc, &mut disk, at, &mut sink)?;
+    if status != wanted.status || sink.taken() != wanted.text {
+        return Ok(Some(Found::Ended(status, Text::from_slice(alloc, sink.taken())?)));
     }
-    if file_of(&disk)?.as_slice() != file {
+    if file_of(&disk)?.as_slice() != stored.file {
         return Ok(Some(Found::Changed));
     }
     Ok(None)

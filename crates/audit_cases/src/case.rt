@@ -1,6 +1,6 @@
 //! A case: commits, a file, and what is done with them.
 
-use crate::auditing::{Found, audit_file, audit_list, audit_prefixes};
+use crate::auditing::{Ending, Found, Stored, audit_file, audit_list, audit_prefixes};
 use crate::commits::{add_write, commit_of, copies_of, outcome_in, text_in};
 use crate::row::{Act, Row};
 use dtext::TextError;
@@ -170,17 +170,16 @@ impl Case<'_> {
             }
             Act::Prefixes => Ok(audit_prefixes(alloc, given.commits.as_slice())?),
             Act::File(at, status, text) => {
-                let wanted = text_in(alloc, text)?;
-                let faults = given.fails.as_slice();
-                Ok(audit_file(
-                    threads,
-                    alloc,
-                    given.file.as_slice(),
-                    faults,
-                    at,
+                let written = text_in(alloc, text)?;
+                let stored = Stored {
+                    file: given.file.as_slice(),
+                    fails: given.fails.as_slice(),
+                };
+                let wanted = Ending {
                     status,
-                    wanted.as_slice(),
-                )?)
+                    text: written.as_slice(),
+                };
+                Ok(audit_file(threads, alloc, stored, at, wanted)?)
             }
         }
     }

@@ -21,19 +21,21 @@ const ONE_TOO_MANY: &[u8] = b"0 do emit 1;\n0 do emit 1;\n";
 /// In which pieces a script is read and its replies are written, and which of those reads and writes fail.
 type Streams = (usize, usize, &'static [u64], &'static [u64]);
 
-/// Runs a script as some words ask, and answers whether it ends so and has written this. Where no write and no flush fails, all
-/// was passed on.
-fn ends_so(
-    rt: &(impl Abort + Threads + Wait + Sync),
-    alloc: Global,
-    words: &[&str],
+/// The words of a command, the script and the streams over which it comes, the status, and what is written.
+#[derive(Clone, Copy)]
+struct Command {
+    words: &'static [&'static str],
+    script: &'static [u8],
     streams: Streams,
-    script: &[u8],
     status: u8,
-    output: &[u8],
-) -> bool {
-    let (read_piece, write_piece, reads, writes) = streams;
-    let source = MemSource::new(alloc, script, read_piece.max(1), reads);
+    output: &'static [u8],
+}
+
+/// Runs a command, and answers whether it ends with its status and has written its output. Where no write and no flush fails, all
+/// was passed on.
+fn ends_so(rt: &(impl Abort + Threads + Wait + Sync), alloc: Global, command: &Command) -> bool {
+    let (read_piece, write_piece, reads, writes) = command.streams;
+    let source = MemSource::new(alloc, command.script, read_piece.max(1), reads);
     let sink = MemSink::new(alloc, write_piece.max(1), writes);
     let (Ok(mut source), Ok(mut sink)) = (source, sink) else {
         return false;
@@ -41,13 +43,15 @@ fn ends_so(
     let found = diamond(
         rt,
         alloc,
-        words,
+        command.words,
         &mut source,
         &mut sink,
         &mut NoDisk::new(),
         &mut NoListener::new(),
     );
-    found == status && sink.taken() == output && (!writes.is_empty() || sink.passed() == output)
+    found == command.status
+        && sink.taken() == command.output
+        && (!writes.is_empty() || sink.passed() == command.output)
 }
 
 /// Streams of which reads fail, and of which writes fail: the status, and what is written.
@@ -70,7 +74,14 @@ fn faults() -> &'static [(Streams, u8, &'static [u8])] {
 #[test]
 fn faults_stop_a_run(rt: HostRuntime) {
     for (streams, status, output) in faults() {
-        assert!(rt; ends_so(&rt, rt.alloc(), &["run"], *streams, LINE, *status, output));
+        let run = Command {
+            words: &["run"],
+            script: LINE,
+            streams: *streams,
+            status: *status,
+            output: *output,
+        };
+        assert!(rt; ends_so(&rt, rt.alloc(), &run));
     }
 }
 
@@ -131,11 +142,14 @@ fn words_ask_for_nothing_or_give_the_settings(rt: HostRuntime) {
     for (number, (words, script, status, output)) in words().iter().enumerate() {
         // Each word is read before a byte is: small pieces show what is read or written where nothing is asked for.
         let piece = if *status == WHOLE { 4096 } else { 1 };
-        let streams = (piece, piece, [].as_slice(), [].as_slice());
-        assert!(rt;
-            ends_so(&rt, rt.alloc(), words, streams, script, *status, output),
-            "row {number}"
-        );
+        let command = Command {
+            words: *words,
+            script: *script,
+            streams: (piece, piece, &[], &[]),
+            status: *status,
+            output: *output,
+        };
+        assert!(rt; ends_so(&rt, rt.alloc(), &command), "row {number}");
     }
 }
 
@@ -164,10 +178,16 @@ fn loads() -> &'static [(&'static [&'static str], &'static [u8])] {
 
 #[test]
 fn loads_are_counted(rt: HostRuntime) {
-    // Nothing is read: a read would fail.
-    let streams = (1, 4096, [0].as_slice(), [].as_slice());
     for (words, line) in loads() {
-        assert!(rt; ends_so(&rt, rt.alloc(), words, streams, LINE, WHOLE, line));
+        let load = Command {
+            words: *words,
+            script: LINE,
+            // Nothing is read: a read would fail.
+            streams: (1, 4096, &[0], &[]),
+            status: WHOLE,
+            output: *line,
+        };
+        assert!(rt; ends_so(&rt, rt.alloc(), &load));
     }
 }
 
@@ -186,17 +206,13 @@ fn load_faults() -> &'static [(&'static [u64], &'static [u8])] {
 #[test]
 fn faults_stop_the_line_of_a_load(rt: HostRuntime) {
     for (writes, output) in load_faults() {
-        let streams = (1, 1, [].as_slice(), *writes);
-        assert!(rt;
-            ends_so(
-                &rt,
-                rt.alloc(),
-                SMALL_WORDS,
-                streams,
-                LINE,
-                WRITE_FAULT,
-                output
-            )
-        );
+        let load = Command {
+            words: SMALL_WORDS,
+            script: LINE,
+            streams: (1, 1, &[], *writes),
+            status: WRITE_FAULT,
+            output: *output,
+        };
+        assert!(rt; ends_so(&rt, rt.alloc(), &load));
     }
 }

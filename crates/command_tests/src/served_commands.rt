@@ -16,33 +16,6 @@ use std::process::Abort;
 use std::sync::Wait;
 use std::thread::Threads;
 
-/// Serves the links of a listener as the words ask, and answers whether it ends with a status, and this is written at the end.
-/// The sink's calls with these numbers fail.
-fn ends_so(
-    rt: &(impl Abort + Threads + Wait + Sync),
-    alloc: Global,
-    words: &[&str],
-    listener: &mut impl Listener,
-    write_fails: &[u64],
-    status: u8,
-    line: &[u8],
-) -> bool {
-    let source = MemSource::new(alloc, b"0 do emit 1;\n", 5, &[]);
-    let (Ok(mut source), Ok(mut sink)) = (source, MemSink::new(alloc, 5, write_fails)) else {
-        return false;
-    };
-    let found = diamond(
-        rt,
-        alloc,
-        words,
-        &mut source,
-        &mut sink,
-        &mut NoDisk::new(),
-        listener,
-    );
-    found == status && sink.taken() == line
-}
-
 /// What a link gives in pieces of 7 bytes, and which of its reads and writes fail.
 type Given = (&'static [u8], &'static [u64], &'static [u64]);
 
@@ -178,6 +151,30 @@ fn listener_of(alloc: Global, row: &Row) -> Result<MemListener, AllocError> {
     Ok(MemListener::failing(alloc, links, plan))
 }
 
+/// Serves the links of a listener as a row's words ask, and answers whether it ends with the row's status, and its line is written
+/// at the end.
+fn ends_so(
+    rt: &(impl Abort + Threads + Wait + Sync),
+    alloc: Global,
+    row: &Row,
+    listener: &mut impl Listener,
+) -> bool {
+    let source = MemSource::new(alloc, b"0 do emit 1;\n", 5, &[]);
+    let (Ok(mut source), Ok(mut sink)) = (source, MemSink::new(alloc, 5, row.writes)) else {
+        return false;
+    };
+    let found = diamond(
+        rt,
+        alloc,
+        row.words,
+        &mut source,
+        &mut sink,
+        &mut NoDisk::new(),
+        listener,
+    );
+    found == row.status && sink.taken() == row.line
+}
+
 /// Whether the links were given back so, in their order.
 fn gave_back(listener: &MemListener, wanted: &[(u8, &[u8])]) -> bool {
     let back = listener.back().as_slice();
@@ -193,15 +190,7 @@ fn gave_back(listener: &MemListener, wanted: &[(u8, &[u8])]) -> bool {
 fn is_served(rt: &(impl Abort + Threads + Wait + Sync), alloc: Global, row: &Row) -> bool {
     match listener_of(alloc, row) {
         Ok(mut listener) => {
-            ends_so(
-                rt,
-                alloc,
-                row.words,
-                &mut listener,
-                row.writes,
-                row.status,
-                row.line,
-            ) && gave_back(&listener, row.back)
+            ends_so(rt, alloc, row, &mut listener) && gave_back(&listener, row.back)
         }
         Err(_) => false,
     }
@@ -214,11 +203,20 @@ fn links_are_served_and_a_line_tells_of_them(rt: HostRuntime) {
     }
 }
 
+/// Nobody listens.
+static NOBODY: Row = Row {
+    words: MANY,
+    links: &[],
+    accepts: &[],
+    writes: &[],
+    status: LISTENER_FAULT,
+    line: b"served 0 sessions 0 faulted commits 0\n",
+    back: &[],
+};
+
 #[test]
 fn without_a_listener_nothing_is_served(rt: HostRuntime) {
-    let line = b"served 0 sessions 0 faulted commits 0\n";
-    let mut none = NoListener::new();
-    assert!(rt; ends_so(&rt, rt.alloc(), MANY, &mut none, &[], LISTENER_FAULT, line));
+    assert!(rt; ends_so(&rt, rt.alloc(), &NOBODY, &mut NoListener::new()));
 }
 
 /// A client that has said its lines.
@@ -242,13 +240,23 @@ fn is_told(alloc: Global, client: io::Result<TcpStream>) -> bool {
     }
 }
 
+/// A session of those lines, whose link is none of these.
+static LOOPBACK: Row = Row {
+    words: ONE,
+    links: &[],
+    accepts: &[],
+    writes: &[],
+    status: WHOLE,
+    line: b"served 1 sessions 0 faulted commits 1\n",
+    back: &[],
+};
+
 #[test]
 fn a_session_over_the_loopback_is_served(rt: HostRuntime) {
     let mut listener = TcpListening::bind(&rt, &rt, "127.0.0.1:0");
     let client = client_of(&rt, listener.address());
-    let line = b"served 1 sessions 0 faulted commits 1\n";
     // Where the client didn't come, no accept would return.
     assert!(rt; client.is_ok());
-    assert!(rt; ends_so(&rt, rt.alloc(), ONE, &mut listener, &[], WHOLE, line));
+    assert!(rt; ends_so(&rt, rt.alloc(), &LOOPBACK, &mut listener));
     assert!(rt; is_told(rt.alloc(), client));
 }

@@ -86,17 +86,24 @@ fn say_address(rt: &HostRuntime, address: &str, bound: Option<SocketAddr>) {
     };
 }
 
+/// An address at which links are counted, and the counts.
+#[derive(Drop)]
+struct Counted<'a> {
+    address: &'a str,
+    counts: Arc<Counts, Global>,
+}
+
 /// Runs the command over what listens at this address, and reads ahead of each connection. The links and the disk count.
 fn command_counted<R: Threads + Wait + Sync, D: Disk + Send>(
     rt: &HostRuntime,
     threads: &R,
     words: &[&str],
     disk: &mut D,
-    address: &str,
-    counts: Arc<Counts, Global>,
+    counted: Counted<'_>,
 ) -> Result<u8, AllocError>
     requires { NothingPending (D.state disk.old) }
 {
+    let Counted { address, counts } = counted;
     let shared = Arc::try_clone(&counts)?;
     let tcp = TcpListening::bind(rt, rt, address);
     say_address(rt, address, tcp.address());
@@ -120,14 +127,17 @@ fn command_told<R: Threads + Wait + Sync, D: Disk + Send>(
     requires { NothingPending (D.state disk.old) }
 {
     let counts = Arc::new(rt.alloc(), Counts::new())?;
-    let shared = Arc::try_clone(&counts)?;
+    let counted = Counted {
+        address,
+        counts: Arc::try_clone(&counts)?,
+    };
     let (_, status) = thread::join(
         threads,
         || tell(rt, &counts),
         || -> Result<u8, AllocError>
             requires { NothingPending (D.state disk.now) }
         {
-            let status = command_counted(rt, threads, words, disk, address, shared);
+            let status = command_counted(rt, threads, words, disk, counted);
             counts.end();
             status
         },
@@ -248,20 +258,29 @@ fn remote<R: Threads + Wait + Sync>(
     Ok(status)
 }
 
+/// What the words say of a server: its address, whether its links bring requests of the wire, and the path of its file, if it has one.
+#[derive(Drop)]
+struct Server {
+    address: Text,
+    wire: bool,
+    file: Option<Text>,
+}
+
 /// Serves at an address, and keeps commits in the file at a path, where one is given. Links bring lines, or requests of the wire.
 fn serve<R: Threads + Wait + Sync>(
     rt: &HostRuntime,
     threads: &R,
     words: &[&str],
-    address: &Text,
-    wire: bool,
-    file: &Option<Text>,
+    server: &Server,
 ) -> Result<u8, AllocError> {
-    let Ok(address) = str::from_utf8(address.as_slice()) else {
+    let Ok(address) = str::from_utf8(server.address.as_slice()) else {
         return Ok(BAD_WORDS);
     };
-    let place = Place { address, wire };
-    let Some(path) = file else {
+    let place = Place {
+        address,
+        wire: server.wire,
+    };
+    let Some(path) = &server.file else {
         return command_at(rt, threads, words, &mut NoDisk::new(), place);
     };
     match str::from_utf8(path.as_slice()) {
@@ -301,7 +320,14 @@ fn run<R: Threads + Wait + Sync>(
                 wire,
                 ..
             },
-        ) => serve(rt, threads, texts, &address, wire, &file),
+        ) => {
+            let server = Server {
+                address,
+                wire,
+                file,
+            };
+            serve(rt, threads, texts, &server)
+        }
         Ok(Plan::Audit { file, .. }) => audit(rt, threads, texts, &file),
         Ok(Plan::Remote { address }) => remote(rt, threads, texts, &address),
         Err(WordsError::NoMemory) => Ok(NO_MEMORY),

@@ -1,5 +1,5 @@
 -- Words that ask to run a script are of one form, and ask for nothing else.
-use Rattle.std.proofs.Common.{◌≡◌, ℕ, Bool, false, nat_eq, List, Option, Some, None, refl, sym, ap, ◌∙◌, subst}
+use Rattle.std.proofs.Common.{◌≡◌, ◌⊎◌, ℕ, Bool, false, nat_eq, List, Option, Some, None, inl, inr, refl, sym, ap, ◌∙◌, subst}
 use Rattle.std.proofs.lemmas.Bool.{eqb-false}
 use denote.Bor.{Bor}
 use Rattle.rdt_types.specs.declared.settings.Settings.{Settings}
@@ -14,7 +14,9 @@ use Rattle.cli_words.specs.declared.refusal.WordsError.TheVariants as words_erro
 use Rattle.cli_words.specs.Forms.{Word, texts, Given, IsNoForm, IsPlan, Spells}
 use Rattle.cli_words.specs.Refusals.{Refuses}
 use Rattle.cli_words.proofs.Complete.{one_form}
-use Rattle.diamond_cli.specs.Words.{AsksNothing}
+use Rattle.script_runner.specs.declared.status.TheConstants.{NO_MEMORY}
+use Rattle.diamond_cli.specs.declared.top.TheConstants.{BAD_WORDS}
+use Rattle.diamond_cli.specs.Words.{AsksNothing, words_refusal}
 
 -- words whose plan is another's by name spell that
 pub plan-asks : (words : List Word) (p q : Plan) → Spells words p → p ≡ q → Spells words q
@@ -68,6 +70,35 @@ pub refused-no-plan : (words : List Word) (error : WordsError) (bad : BadWords) 
     → Spells words p → ⊥
 refused-no-plan words error bad p refuses is spells =
     no-form words bad (subst (Refuses words) is refuses) spells.name spells.given spells.form
+
+-- ---- words of which no command was read
+
+-- where they spell one, memory was wanting
+pub spelled-wanting : (words : List Word) (error : WordsError) (p : Plan) → Refuses words error → Spells words p
+    → words_refusal error ≡ NO_MEMORY
+spelled-wanting words (words_error.BadWords bad) p refuses spells =
+    absurd (refused-no-plan words (words_error.BadWords bad) bad p refuses refl spells)
+spelled-wanting words words_error.NoMemory p refuses spells = refl
+
+-- where that is told by the status of bad words, they ask for nothing
+pub unread-nothing : (words : List (Bor Word)) (error : WordsError) → Refuses (texts words) error → words_refusal error ≡ BAD_WORDS
+    → AsksNothing words
+unread-nothing words (words_error.BadWords bad) refuses is =
+    let none : (p : Plan) → Spells (texts words) p → ⊥ =
+    λ p spells. refused-no-plan (texts words) (words_error.BadWords bad) bad p refuses refl spells in (
+      λ asks. none _ asks.1,
+      λ asks. none _ asks.4,
+      λ asks. none _ asks.5,
+      λ asks. none _ asks.2,
+      λ asks. none _ asks.1,
+      λ asks. none _ asks.3,
+    )
+unread-nothing words words_error.NoMemory refuses is = absurd (cc is)
+
+-- there are two such statuses
+pub unread-statuses : (error : WordsError) → (words_refusal error ≡ BAD_WORDS) ⊎ (words_refusal error ≡ NO_MEMORY)
+unread-statuses (words_error.BadWords bad) = inl refl
+unread-statuses words_error.NoMemory = inr refl
 
 -- ---- words ask for one thing
 

@@ -29,8 +29,9 @@ use Rattle.journal_file.specs.Keepers.{KeepsThese, told_by, doubted_by, ReadsAs,
 use Rattle.diamond_server.specs.Accounts.{Gatherings}
 use Rattle.diamond_server.specs.Ways.{Promising}
 use Rattle.diamond_server.specs.declared.serving_all.Tally.{Tally}
-use Rattle.diamond_cli.specs.Serving.{promised_of, HasServed, IsSaid, ending}
+use Rattle.diamond_cli.specs.Serving.{promised_of, HasServed, EndsLinks, IsSaid, ending}
 use Rattle.diamond_cli.specs.Filed.{Storing, HoldsJournal, refusal, HoldsNone, IsUnwritten, IsUnaccepted, IsRefused, IsFiled, ServesFile}
+use Rattle.diamond_cli.proofs.Served.{ends-unsaid, ends-nobody}
 
 -- ---- the commits of a file
 
@@ -265,6 +266,13 @@ module _ {L : Type 0} (Promised : Promising) (told : L → Both) (settings : Set
     completes = λ disk accepted written. refl;
     unrefused = any-kept _ d.state (λ no. absurd (cc no));
   }
+
+-- each link has ended that was given back: where the file was not recovered none was
+pub refused-ends : {L : Type 0} (ended : L → Option Bool) (g : Gatherings L) (d : Storing) (w : Writing) (e : RecoverError) → IsRefused g d w e
+    → EndsLinks ended g (refusal e)
+refused-ends ended g d w (error.NotJournal at) is = ends-nobody ended g _ is.2.given
+refused-ends ended g d w error.DiskFault is = ends-nobody ended g _ is.1.given
+refused-ends ended g d w error.NoMemory is = ends-unsaid ended g
 
 -- what links bring, by the word that was given
 pub files-form : {L : Type 0} (wire form : Bool) (told : L → Both) (settings : Settings) (sessions : ℕ) (g : Gatherings L) (d : Storing) (status : ℕ)

@@ -1,12 +1,14 @@
 -- What `serve` promises of a store in memory, from what its parts do.
 use Rattle.std.proofs.Common.{◌≡◌, ℕ, ◌+◌, ◌<◌, Bool, true, false, List, [], length, inl, inr, refl, sym, ap, ◌∙◌, subst, arith}
-use Rattle.std.specs.Prelude.{All, Result, Ok, Err, IfOk}
+use Rattle.std.specs.Prelude.{All, Option, Result, Ok, Err, IfOk}
+use Rattle.std.proofs.lemmas.List.Elements.{All-nil}
 use mathlib.Core.List.{IsPrefix}
 use Rattle.plain_data.specs.Histories.{IsLawful}
 use Rattle.history_lock.specs.Entries.{NamesBelow}
 use Rattle.history_lock.specs.declared.known.Known as tokens
 use Rattle.dio_core.specs.Counts.{Rose, IsCounted}
 use Rattle.dio_core.specs.Links.{Both}
+use Rattle.dio_core.proofs.Sinks.{with_more-nil}
 use Rattle.rdt_types.specs.declared.settings.Settings.{Settings}
 use Rattle.txn_lang.specs.declared.commit.Commit.{Commit}
 use Rattle.txn_lang.specs.Journals.{IsLegal}
@@ -24,7 +26,7 @@ use Rattle.script_runner.specs.declared.status.TheConstants.{NO_MEMORY}
 use Rattle.diamond_server.specs.Accounts.{Gatherings, AllServed}
 use Rattle.diamond_server.specs.Ways.{Promising}
 use Rattle.diamond_server.specs.declared.serving_all.Tally.{Tally}
-use Rattle.diamond_cli.specs.Serving.{promised_of, HasServed, ending, IsEnded, ServesLinks}
+use Rattle.diamond_cli.specs.Serving.{promised_of, HasServed, EndsLinks, ending, IsEnded, ServesLinks}
 
 -- whatever is told of what a call gives, so is what follows from it
 pub ok-map : {S E : Type 0} (r : Result S E) (P Q : S → Type 0) → ((s : S) → P s → Q s) → IfOk r P → IfOk r Q
@@ -119,6 +121,21 @@ module _ {L : Type 0} (Promised : Promising) (told : L → Both) (settings : Set
     unwritten = λ is. (taken, faults);
     listener = λ is. absurd (cc is);
     completes = λ accepted written. inr refl;
+  }
+
+-- ---- links that have ended
+
+module _ {L : Type 0} (ended : L → Option Bool) (g : Gatherings L) where
+  -- for want of memory nothing is said of them
+  pub ends-unsaid : EndsLinks ended g NO_MEMORY
+  ends-unsaid = λ no. absurd (no refl)
+
+  -- where none was given back
+  pub ends-nobody : (status : ℕ) → g.given_then ≡ g.given → EndsLinks ended g status
+  ends-nobody status same = λ no. record {
+    back = [];
+    given_back = same ∙ sym (with_more-nil g.given);
+    each = All-nil _;
   }
 
 -- what links bring, by the word that was given

@@ -8,18 +8,14 @@ use Rattle.rdt_types.specs.declared.settings.Settings.{Settings}
 use Rattle.cli_words.specs.Forms.{Word}
 use Rattle.script_runner.specs.Script.{Reading, Writing, KeepsPromises}
 use Rattle.load_runner.specs.Loads.{Loads}
-use Rattle.diamond_cli.specs.declared.top.TheConstants.{BAD_WORDS}
 use Rattle.diamond_cli.specs.Words.{AsksRunWith, AsksServeWith, AsksServeFileWith, AsksAuditWith, AsksRemoteWith, AsksLoadWith}
 use Rattle.diamond_server.specs.Accounts.{Gatherings}
 use Rattle.diamond_server.specs.Promises.{sides}
-use Rattle.diamond_cli.specs.Serving.{promised_of, ServesLinks}
+use Rattle.diamond_cli.specs.Serving.{promised_of, ServesLinks, EndsLinks}
 use Rattle.diamond_cli.specs.Filed.{Storing, ServesFile}
 use Rattle.diamond_cli.specs.Audited.{Audits}
 use Rattle.diamond_cli.specs.Reaching.{Reaches}
 use Rattle.dio_core.specs.Links.{Both}
-
-BAD_WORDS-is : BAD_WORDS ≡ 1
-BAD_WORDS-is = refl
 
 -- the settings of a store that is told none
 standard-are : STANDARD_SHARDS ∷ STANDARD_WINDOW ∷ STANDARD_COMMITS ∷ [] ≡ 4 ∷ 4096 ∷ 100000 ∷ []
@@ -32,19 +28,20 @@ pub record RunsScript (words : List (Bor Word)) (status : ℕ) (r : Reading) (w 
   pub promises : KeepsPromises settings status r w
 
 -- `serve` keeps its promises, with the settings, for as many sessions and over such links as the words ask for. Each link tells what it
--- is as a source and as a sink.
-pub record Serves {L : Type 0} (words : List (Bor Word)) (source : SourceTells L) (sink : SinkTells L) (g : Gatherings L) (status : ℕ) (w : Writing)
-    : Type 0 where
+-- is as a source and as a sink, and whether it has ended.
+pub record Serves {L : Type 0} (words : List (Bor Word)) (source : SourceTells L) (sink : SinkTells L)
+    (ended : L → Option Bool) (g : Gatherings L) (status : ℕ) (w : Writing) : Type 0 where
   pub settings : Settings
   pub address : Word
   pub sessions : ℕ
   pub wire : Bool
   pub asked : AsksServeWith words settings address sessions wire
   pub promises : ServesLinks (promised_of wire) (sides source sink) settings sessions g status w
+  pub ends : EndsLinks ended g status
 
 -- The same over the file of a disk, at the path that the words say.
-pub record Files {L : Type 0} (words : List (Bor Word)) (source : SourceTells L) (sink : SinkTells L) (g : Gatherings L) (d : Storing) (status : ℕ)
-    (w : Writing) : Type 0 where
+pub record Files {L : Type 0} (words : List (Bor Word)) (source : SourceTells L) (sink : SinkTells L)
+    (ended : L → Option Bool) (g : Gatherings L) (d : Storing) (status : ℕ) (w : Writing) : Type 0 where
   pub settings : Settings
   pub address : Word
   pub sessions : ℕ
@@ -52,6 +49,7 @@ pub record Files {L : Type 0} (words : List (Bor Word)) (source : SourceTells L)
   pub wire : Bool
   pub asked : AsksServeFileWith words settings address sessions path wire
   pub promises : ServesFile (promised_of wire) (sides source sink) settings sessions g d status w
+  pub ends : EndsLinks ended g status
 
 -- `audit` keeps its promises of the file of a disk, at the path that the words say, and of the number of commits that they ask for.
 pub record AuditsFile (words : List (Bor Word)) (d : Storing) (status : ℕ) (w : Writing) : Type 0 where

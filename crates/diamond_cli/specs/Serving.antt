@@ -1,5 +1,6 @@
 -- What `serve` promises: what came of the links of a listener, and the line that it writes at its end.
 use Rattle.std.specs.Prelude.{◌≡◌, ◌≢◌, ◌⊎◌, ℕ, ◌<◌, ◌==◌, Bool, true, false, List, [], ◌∷◌, ◌++◌, length, All, IsTrue, if◌then◌else◌, codes, refl}
+use Rattle.std.specs.Prelude.{Option}
 use Rattle.std.specs.List.{list_any}
 use Rattle.std.specs.Fmt.{decimal}
 use mathlib.Core.List.{IsPrefix}
@@ -16,7 +17,7 @@ use Rattle.diamond_store.specs.Passes.{Passed, known_of}
 use Rattle.session_core.specs.Explained.{setting_of}
 use Rattle.script_runner.specs.Script.{Writing}
 use Rattle.script_runner.specs.declared.status.TheConstants.{WHOLE, WRITE_FAULT, NO_MEMORY}
-use Rattle.diamond_server.specs.Accounts.{Gatherings, AllServed, LinesPromised}
+use Rattle.diamond_server.specs.Accounts.{Gatherings, AllServed, AreEnded, LinesPromised}
 use Rattle.diamond_server.specs.Ways.{Promising}
 use Rattle.diamond_server.specs.declared.serving_all.Tally.{Tally}
 use Rattle.wire_server.specs.Links.{RequestsPromised}
@@ -54,6 +55,10 @@ pub record HasServed {L : Type 0} (Promised : Promising) (told : L → Both) (se
   pub others : All (λ commit. commit.client < low) kept
   -- no more was denied than the keeper failed, unless its count has come to its last value; so no link has more replies `disk`
   pub denied : IsAtMostRise before pass.denials after
+
+-- EACH LINK HAS ENDED that the listener was given back, where it tells that, memory aside: nobody waits at its other end.
+abbrev pub EndsLinks : {L : Type 0} → (L → Option Bool) → Gatherings L → ℕ → Type 0
+EndsLinks ended g status = status ≢ NO_MEMORY → AreEnded ended g.given g.given_then
 
 -- ---- the line
 

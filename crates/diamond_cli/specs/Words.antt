@@ -1,10 +1,17 @@
 -- What the words of a command ask for. Their forms are those of cli_words.
-use Rattle.std.specs.Prelude.{ℕ, Bool, List, [], ◌∷◌, Option, Some, None, codes, refl}
+use Rattle.std.specs.Prelude.{◌≡◌, ℕ, Bool, List, [], ◌∷◌, Option, Some, None, codes, refl}
 use denote.Bor.{Bor}
 use Rattle.rdt_types.specs.declared.settings.Settings.{Settings}
 use Rattle.cli_words.specs.declared.name.CommandName.TheVariants as command
 use Rattle.cli_words.specs.declared.plan.Plan.TheVariants as plan
+use Rattle.cli_words.specs.declared.refusal.WordsError.{WordsError}
+use Rattle.cli_words.specs.declared.refusal.WordsError.TheVariants as words_error
 use Rattle.cli_words.specs.Forms.{Word, texts, HasSettings, nothing_given, Spells}
+use Rattle.script_runner.specs.declared.status.TheConstants.{NO_MEMORY}
+use Rattle.diamond_cli.specs.declared.top.TheConstants.{BAD_WORDS}
+
+BAD_WORDS-is : BAD_WORDS ≡ 1
+BAD_WORDS-is = refl
 
 -- they ask to run a script over a store with these settings
 abbrev pub AsksRunWith : List (Bor Word) → Settings → Type 0
@@ -62,6 +69,14 @@ abbrev pub AsksNothing : List (Bor Word) → Type 0
 AsksNothing words =
     (AsksRun words → ⊥) × (AsksServe words → ⊥) × (AsksServeFile words → ⊥) × (AsksAudit words → ⊥) × (AsksRemote words → ⊥)
     × (AsksLoad words → ⊥)
+
+-- the status where no command was read from them
+abbrev pub words_refusal : WordsError → ℕ
+words_refusal (words_error.BadWords bad) = BAD_WORDS
+words_refusal words_error.NoMemory = NO_MEMORY
+
+words_refusal-example : words_refusal words_error.NoMemory ≡ 5
+words_refusal-example = refl
 
 -- `run` alone asks for a run, over a store with the standard settings
 run-spells : (settings : Settings) → HasSettings nothing_given settings → Spells (codes "run" ∷ []) (plan.Run settings)

@@ -108,10 +108,12 @@ fn audit_read<K: Asked, D: Disk>(
 ) -> Result<Audited, RecoverError>
     requires { at ≡ K.at }
     ensures read { IfOk result (IsAuditOf at (D.state disk.old)) }
-    ensures refused { IfErr result (λ e. IfSome (D.state disk.old) (λ s. recovering.IsRefused (kept CommitsFollow s.file) e)) }
+    ensures refused { IfErr result (λ e. IfSome (D.state disk.old)
+        (λ s. recovering.IsRefused (kept CommitsFollow s.file) e)) }
     ensures same { D.state disk.new ≡ D.state disk.old }
     ensures past { D.past disk.new ≡ D.past disk.old }
-    ensures counted { IsCounted (recovering.disk_failed result) (D.disk_faults disk.old) (D.disk_faults disk.new) }
+    ensures counted { IsCounted (recovering.disk_failed result)
+        (D.disk_faults disk.old) (D.disk_faults disk.new) }
 {
     let auditing = hand_kept(alloc, disk, Auditing::<K>::new(alloc, at))?;
     Ok(auditing.finish()?)
@@ -124,8 +126,10 @@ fn audit_kept<W: Sink, D: Disk>(
     sink: &mut W,
     disk: &mut D,
 ) -> Result<u8, RecoverError>
-    ensures read { IfOk result (λ status. IsRead at (storing D.Disk disk.old disk.new) status (writing W.Sink sink.old sink.new)) }
-    ensures unread { IfErr result (IsUnread (storing D.Disk disk.old disk.new) (writing W.Sink sink.old sink.new)) }
+    ensures read { IfOk result (λ status. IsRead at (storing D.Disk disk.old disk.new) status
+        (writing W.Sink sink.old sink.new)) }
+    ensures unread { IfErr result (IsUnread (storing D.Disk disk.old disk.new)
+        (writing W.Sink sink.old sink.new)) }
     ensures past { D.past disk.new ≡ D.past disk.old }
 {
     let audited = audit_read::<Brand, D>(alloc, at, disk)?;
@@ -144,7 +148,8 @@ pub(crate) fn audit_file<W: Sink, D: Disk>(
     sink: &mut W,
     disk: &mut D,
 ) -> u8
-    ensures audits { Audits at (storing D.Disk disk.old disk.new) result (writing W.Sink sink.old sink.new) }
+    ensures audits { Audits at (storing D.Disk disk.old disk.new) result
+        (writing W.Sink sink.old sink.new) }
     ensures past { D.past disk.new ≡ D.past disk.old }
 {
     match audit_kept(alloc, at, sink, disk) {

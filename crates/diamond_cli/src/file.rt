@@ -1,6 +1,6 @@
 //! `serve` over a store whose commits are kept in the file of a disk.
 
-ghost use Rattle.std.specs.Prelude.{◌≡◌, ◌+◌, ◌<◌, ◌^◌, length, IfOk, IfErr, IfSome};
+ghost use Rattle.std.specs.Prelude.{◌≡◌, ◌+◌, ◌<◌, ◌^◌, length, IfOk, IfErr, OnOk, IfSome};
 ghost use Rattle.dio_core.specs.Disks.{NothingPending};
 ghost use Rattle.plain_data.specs.Histories.{IsLawful};
 ghost use Rattle.script_runner.specs.Script.{writing};
@@ -8,18 +8,19 @@ ghost use Rattle.journal_file.specs.Keepers.{Holds};
 ghost use Rattle.diamond_store.specs.Following.{Follows};
 ghost use Rattle.diamond_store.specs.Opening.{AreClients};
 ghost use Rattle.diamond_server.specs.Promises.{sides};
-ghost use Rattle.diamond_server.specs.Accounts.{gatherings};
-ghost use Rattle.diamond_cli.specs.Serving.{promised_of, HasServed};
-ghost use Rattle.diamond_cli.specs.Filed.{storing, refusal, HoldsJournal, IsFiled, IsRefused, ServesFile};
+ghost use Rattle.diamond_server.specs.Accounts.{gatherings, AreEnded};
+ghost use Rattle.diamond_cli.specs.Serving.{promised_of, HasServed, EndsLinks};
+ghost use Rattle.diamond_cli.specs.Filed.{storing, refusal, HoldsJournal, IsFiled, IsRefused};
+ghost use Rattle.diamond_cli.specs.Filed.{ServesFile};
 
 use crate::line::say;
+use crate::service::{Asked, Service};
 use crate::sessions::{Served, serve_kept};
 use commit_file::RecoverError;
 use diamond_server::{Serves, SessionLines, Tally};
 use dio_core::{Disk, Listener, Sink};
 use journal_file::{CommitKeeper, Recovered, recover};
 use par_rerun::{NoMeet, Parallel};
-use rdt_types::Settings;
 use script_runner::NO_MEMORY;
 use std::alloc::{AllocError, Global};
 use std::sync::Wait;
@@ -42,31 +43,29 @@ struct Filed {
 
 /// Serves over a file that was recovered, and gives its disk back.
 fn serve_recovered<D: Disk + Send, Li: Listener, V: Serves + Sync, R: Threads + Wait + Sync>(
-    rt: &R,
     alloc: Global,
-    settings: &Settings,
-    sessions: u32,
     recovered: Recovered,
     disk: &mut D,
     listener: &mut Li,
-    way: &V,
+    service: &Service<'_, V, R>,
 ) -> Result<Filed, AllocError>
     requires lawful { IsLawful Follows (length recovered.commits) recovered.commits }
     requires clients { AreClients recovered.commits }
     requires holds { IfSome (D.state disk.old) (Holds recovered.commits recovered.end) }
     requires room { recovered.end + 1 < 2 ^ 64 }
-    ensures served { IfOk result (λ filed. HasServed V.promised (sides Li.Link.Source Li.Link.Sink) settings.now sessions
-        (gatherings Li.Listener listener.old listener.new) recovered.commits (D.disk_faults disk.old) (D.disk_faults disk.new)
+    ensures served { IfOk result (λ filed. HasServed V.promised (sides Li.Link.Source Li.Link.Sink)
+        service.now.settings service.now.sessions (gatherings Li.Listener listener.old listener.new)
+        recovered.commits (D.disk_faults disk.old) (D.disk_faults disk.new)
         filed.tally filed.commits) }
-    ensures holds { IfOk result (λ filed. HoldsJournal filed.commits (D.disk_faults disk.old) (D.disk_faults disk.new)
-        (D.state disk.new)) }
+    ensures holds { IfOk result (λ filed. HoldsJournal filed.commits
+        (D.disk_faults disk.old) (D.disk_faults disk.new) (D.state disk.new)) }
+    ensures ends { OnOk result (AreEnded Li.Link.ended
+        (Li.given_back listener.old) (Li.given_back listener.new)) }
 {
     let _count = disk.disk_faults();
     let Recovered { commits, end } = recovered;
     let keeper = CommitKeeper::new(disk, end);
-    let served = serve_kept(
-        rt, alloc, settings, keeper, commits, true, listener, sessions, way,
-    )?;
+    let served = serve_kept(alloc, keeper, commits, listener, service)?;
     let Served {
         tally,
         mut keeper,
@@ -80,25 +79,23 @@ fn serve_recovered<D: Disk + Send, Li: Listener, V: Serves + Sync, R: Threads + 
 
 /// Recovers the file, serves, and answers the status. Where an error comes, nothing was written.
 fn serve_links<W: Sink, D: Disk + Send, Li: Listener, V: Serves + Sync, R: Threads + Wait + Sync>(
-    rt: &R,
     alloc: Global,
-    settings: &Settings,
-    sessions: u32,
     sink: &mut W,
     disk: &mut D,
     listener: &mut Li,
-    way: &V,
+    service: &Service<'_, V, R>,
 ) -> Result<u8, RecoverError>
     requires pending { NothingPending (D.state disk.old) }
-    ensures filed { IfOk result (λ status. IsFiled V.promised (sides Li.Link.Source Li.Link.Sink) settings.now sessions
-        (gatherings Li.Listener listener.old listener.new) (storing D.Disk disk.old disk.new) status (writing W.Sink sink.old sink.new)) }
-    ensures refused { IfErr result (IsRefused (gatherings Li.Listener listener.old listener.new) (storing D.Disk disk.old disk.new)
-        (writing W.Sink sink.old sink.new)) }
+    ensures filed { IfOk result (λ status. IsFiled V.promised (sides Li.Link.Source Li.Link.Sink)
+        service.now.settings service.now.sessions (gatherings Li.Listener listener.old listener.new)
+        (storing D.Disk disk.old disk.new) status (writing W.Sink sink.old sink.new)) }
+    ensures ends { OnOk result (AreEnded Li.Link.ended
+        (Li.given_back listener.old) (Li.given_back listener.new)) }
+    ensures refused { IfErr result (IsRefused (gatherings Li.Listener listener.old listener.new)
+        (storing D.Disk disk.old disk.new) (writing W.Sink sink.old sink.new)) }
 {
     let recovered = recover(alloc, disk)?;
-    let filed = serve_recovered(
-        rt, alloc, settings, sessions, recovered, disk, listener, way,
-    )?;
+    let filed = serve_recovered(alloc, recovered, disk, listener, service)?;
     Ok(say(alloc, filed.tally, &filed.commits, sink)?)
 }
 
@@ -115,20 +112,20 @@ pub(crate) fn status_of(error: RecoverError) -> u8
 
 /// Serves links in this way over the file of a disk, and answers the status.
 fn serve_way<W: Sink, D: Disk + Send, Li: Listener, V: Serves + Sync, R: Threads + Wait + Sync>(
-    rt: &R,
     alloc: Global,
-    settings: &Settings,
-    sessions: u32,
     sink: &mut W,
     disk: &mut D,
     listener: &mut Li,
-    way: &V,
+    service: &Service<'_, V, R>,
 ) -> u8
     requires pending { NothingPending (D.state disk.old) }
-    ensures { ServesFile V.promised (sides Li.Link.Source Li.Link.Sink) settings.now sessions
-        (gatherings Li.Listener listener.old listener.new) (storing D.Disk disk.old disk.new) result (writing W.Sink sink.old sink.new) }
+    ensures serves { ServesFile V.promised (sides Li.Link.Source Li.Link.Sink)
+        service.now.settings service.now.sessions (gatherings Li.Listener listener.old listener.new)
+        (storing D.Disk disk.old disk.new) result (writing W.Sink sink.old sink.new) }
+    ensures ends { EndsLinks Li.Link.ended
+        (gatherings Li.Listener listener.old listener.new) result }
 {
-    match serve_links(rt, alloc, settings, sessions, sink, disk, listener, way) {
+    match serve_links(alloc, sink, disk, listener, service) {
         Ok(status) => status,
         Err(error) => status_of(error),
     }
@@ -142,26 +139,37 @@ fn serve_way<W: Sink, D: Disk + Send, Li: Listener, V: Serves + Sync, R: Threads
 /// 6: the disk failed while the file was recovered. 7: the file is none of a journal. 8: an accept failed; the running sessions
 /// ended first, and the line was tried.
 pub(crate) fn serve_file<W: Sink, D: Disk + Send, Li: Listener, R: Threads + Wait + Sync>(
-    rt: &R,
     alloc: Global,
-    settings: &Settings,
-    sessions: u32,
-    wire: bool,
+    asked: &Asked<'_, R>,
     sink: &mut W,
     disk: &mut D,
     listener: &mut Li,
 ) -> u8
     requires pending { NothingPending (D.state disk.old) }
-    ensures { ServesFile (promised_of wire) (sides Li.Link.Source Li.Link.Sink) settings.now sessions
-        (gatherings Li.Listener listener.old listener.new) (storing D.Disk disk.old disk.new) result (writing W.Sink sink.old sink.new) }
+    ensures serves { ServesFile (promised_of asked.now.wire) (sides Li.Link.Source Li.Link.Sink)
+        asked.now.settings asked.now.sessions (gatherings Li.Listener listener.old listener.new)
+        (storing D.Disk disk.old disk.new) result (writing W.Sink sink.old sink.new) }
+    ensures ends { EndsLinks Li.Link.ended
+        (gatherings Li.Listener listener.old listener.new) result }
 {
-    if wire {
-        serve_way(
-            rt, alloc, settings, sessions, sink, disk, listener, &Requests,
-        )
+    if asked.wire {
+        let requests = Service {
+            rt: asked.rt,
+            settings: asked.settings,
+            sessions: asked.sessions,
+            relayed: true,
+            way: &Requests,
+        };
+        serve_way(alloc, sink, disk, listener, &requests)
     } else {
-        let reruns = Parallel::new(rt, NoMeet);
-        let lines = SessionLines { reruns: &reruns };
-        serve_way(rt, alloc, settings, sessions, sink, disk, listener, &lines)
+        let reruns = Parallel::new(asked.rt, NoMeet);
+        let lines = Service {
+            rt: asked.rt,
+            settings: asked.settings,
+            sessions: asked.sessions,
+            relayed: true,
+            way: &SessionLines { reruns: &reruns },
+        };
+        serve_way(alloc, sink, disk, listener, &lines)
     }
 }

@@ -12,6 +12,7 @@ mod line;
 mod remote;
 mod run;
 mod serve;
+mod service;
 mod sessions;
 mod top;
 

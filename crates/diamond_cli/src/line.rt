@@ -17,7 +17,8 @@ pub const LISTENER_FAULT: u8 = 8;
 
 /// The line of what came of the links and of the store's commits.
 fn line_of(alloc: Global, tally: Tally, commits: &CommitList) -> Result<Text, AllocError>
-    ensures { IfOk result (λ line. line ≡ served_line tally.accepted tally.faulted (length commits.now)) }
+    ensures { IfOk result (λ line. line
+        ≡ served_line tally.accepted tally.faulted (length commits.now)) }
 {
     let mut line = Text::new(alloc);
     line.extend_from_slice(b"served ")?;
@@ -55,7 +56,8 @@ pub(crate) fn say<W: Sink>(
     commits: &CommitList,
     sink: &mut W,
 ) -> Result<u8, AllocError>
-    ensures said { IfOk result (λ status. IsSaid tally commits.now status (writing W.Sink sink.old sink.new)) }
+    ensures said { IfOk result (λ status. IsSaid tally commits.now status
+        (writing W.Sink sink.old sink.new)) }
     ensures unwritten { OnErr result (sink.new ≡ sink.old) }
 {
     let line = line_of(alloc, tally, commits)?;

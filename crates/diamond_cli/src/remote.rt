@@ -26,7 +26,8 @@ pub(crate) fn remote<S: Source, W: Sink, Li: Listener>(
     sink: &mut W,
     listener: &mut Li,
 ) -> u8
-    ensures { Reaches (sides Li.Link.Source Li.Link.Sink) (gatherings Li.Listener listener.old listener.new) result
+    ensures { Reaches (sides Li.Link.Source Li.Link.Sink)
+        (gatherings Li.Listener listener.old listener.new) result
         (ends S.Source W.Sink source.old sink.old) (ends S.Source W.Sink source.new sink.new) }
 {
     match listener.accept() {

@@ -1,6 +1,6 @@
 //! Sessions over the links of a listener, on a store of their own, and its end.
 
-ghost use Rattle.std.specs.Prelude.{◌≡◌, None, length, IfOk, IfSome};
+ghost use Rattle.std.specs.Prelude.{◌≡◌, None, length, IfOk, OnOk, IfSome};
 ghost use Rattle.plain_data.specs.Histories.{IsLawful};
 ghost use Rattle.history_lock.specs.Entries.{NamesBelow};
 ghost use Rattle.diamond_store.specs.Answers.{IsFirst};
@@ -9,10 +9,11 @@ ghost use Rattle.diamond_store.specs.Following.{Follows};
 ghost use Rattle.diamond_store.specs.Numbers.{faults_in, from_in, home_in, HasSettings};
 ghost use Rattle.diamond_store.specs.Opening.{AreClients};
 ghost use Rattle.diamond_server.specs.Promises.{sides};
-ghost use Rattle.diamond_server.specs.Accounts.{gatherings};
+ghost use Rattle.diamond_server.specs.Accounts.{gatherings, AreEnded};
 ghost use Rattle.diamond_cli.specs.Serving.{HasServed};
 
-use diamond_server::{Serves, Tally, serve_links};
+use crate::service::Service;
+use diamond_server::{Serves, Serving, Tally, serve_links};
 use diamond_store::{Book, Closed, Open, Pass, Store, open};
 use dio_core::Listener;
 use history_lock::{Naming, Opened};
@@ -61,29 +62,36 @@ fn serve_over<
     V: Serves + Sync,
     R: Threads + Wait + Sync,
 >(
-    rt: &R,
     alloc: Global,
     opened: Opened<Book<K>>,
-    settings: &Settings,
-    relayed: bool,
     listener: &mut Li,
-    sessions: u32,
-    way: &V,
+    service: &Service<'_, V, R>,
 ) -> Result<Served<K>, AllocError>
     requires lock { opened.lock ≡ N.lock }
-    requires settings { HasSettings opened.lock.origin settings.now }
+    requires settings { HasSettings opened.lock.origin service.now.settings }
     requires author { opened.front.author ≡ None }
     requires from { from_in opened.lock.origin ≡ opened.lock.base }
     requires base { opened.lock.base ≡ length opened.front.seen }
     requires clients { NamesBelow client_of opened.lock.first opened.front.seen }
-    ensures served { IfOk result (λ served. HasServed V.promised (sides Li.Link.Source Li.Link.Sink) settings.now sessions
-        (gatherings Li.Listener listener.old listener.new) opened.front.seen (faults_in opened.lock.origin)
-        (K.keep_faults served.keeper) served.tally served.commits) }
-    ensures kept { IfOk result (λ served. IfSome (K.kept served.keeper) (λ list. list ≡ served.commits)) }
+    ensures served { IfOk result (λ served. HasServed V.promised (sides Li.Link.Source Li.Link.Sink)
+        service.now.settings service.now.sessions (gatherings Li.Listener listener.old listener.new)
+        opened.front.seen (faults_in opened.lock.origin) (K.keep_faults served.keeper)
+        served.tally served.commits) }
+    ensures ends { OnOk result (AreEnded Li.Link.ended
+        (Li.given_back listener.old) (Li.given_back listener.new)) }
+    ensures kept { IfOk result (λ served. IfSome (K.kept served.keeper)
+        (λ list. list ≡ served.commits)) }
     ensures home { IfOk result (λ served. K.home served.keeper ≡ home_in opened.lock.origin) }
 {
-    let (store, mut pass) = begun::<K, N, R>(rt, alloc, settings, opened, relayed)?;
-    let tally = serve_links(rt, alloc, listener, &store, &mut pass, sessions, way)?;
+    let rt = service.rt;
+    let settings = &service.settings;
+    let (store, mut pass) = begun::<K, N, R>(rt, alloc, settings, opened, service.relayed)?;
+    let serving = Serving {
+        store: &store,
+        sessions: service.sessions,
+        way: service.way,
+    };
+    let tally = serve_links(rt, alloc, listener, &mut pass, &serving)?;
     let Closed { keeper, commits } = store.close(rt, pass);
     Ok(Served {
         tally,
@@ -93,29 +101,26 @@ fn serve_over<
 }
 
 /// Serves at most so many links in this way over one store, each in a thread of its own, and ends the store. It begins with the
-/// commits that its keeper has kept. A relay is for a keeper that may wait, so that none who reads waits for it.
+/// commits that its keeper has kept.
 pub(crate) fn serve_kept<Li: Listener, K: Keep + Send, V: Serves + Sync, R: Threads + Wait + Sync>(
-    rt: &R,
     alloc: Global,
-    settings: &Settings,
     keeper: K,
     kept: CommitList,
-    relayed: bool,
     listener: &mut Li,
-    sessions: u32,
-    way: &V,
+    service: &Service<'_, V, R>,
 ) -> Result<Served<K>, AllocError>
     requires lawful { IsLawful Follows (length kept) kept }
     requires clients { AreClients kept }
     requires told { IfSome (K.kept keeper) (λ list. list ≡ kept) }
-    ensures served { IfOk result (λ served. HasServed V.promised (sides Li.Link.Source Li.Link.Sink) settings.now sessions
-        (gatherings Li.Listener listener.old listener.new) kept (K.keep_faults keeper) (K.keep_faults served.keeper)
-        served.tally served.commits) }
-    ensures kept { IfOk result (λ served. IfSome (K.kept served.keeper) (λ list. list ≡ served.commits)) }
+    ensures served { IfOk result (λ served. HasServed V.promised (sides Li.Link.Source Li.Link.Sink)
+        service.now.settings service.now.sessions (gatherings Li.Listener listener.old listener.new)
+        kept (K.keep_faults keeper) (K.keep_faults served.keeper) served.tally served.commits) }
+    ensures ends { OnOk result (AreEnded Li.Link.ended
+        (Li.given_back listener.old) (Li.given_back listener.new)) }
+    ensures kept { IfOk result (λ served. IfSome (K.kept served.keeper)
+        (λ list. list ≡ served.commits)) }
     ensures home { IfOk result (λ served. K.home served.keeper ≡ K.home keeper) }
 {
-    let opened = open(alloc, settings, keeper, kept)?;
-    serve_over::<_, _, Brand, _, _>(
-        rt, alloc, opened, settings, relayed, listener, sessions, way,
-    )
+    let opened = open(alloc, &service.settings, keeper, kept)?;
+    serve_over::<_, _, Brand, _, _>(alloc, opened, listener, service)
 }

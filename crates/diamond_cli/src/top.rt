@@ -6,15 +6,18 @@ ghost use Rattle.script_runner.specs.Script.{reading, writing};
 ghost use Rattle.script_runner.specs.declared.status.TheConstants.{NO_MEMORY};
 ghost use Rattle.diamond_server.specs.Accounts.{gatherings};
 ghost use Rattle.remote_command.specs.Running.{ends};
-ghost use Rattle.diamond_cli.specs.Words.{AsksRun, AsksServe, AsksServeFile, AsksAudit, AsksRemote, AsksLoad, AsksNothing};
+ghost use Rattle.diamond_cli.specs.Words.{AsksRun, AsksServe, AsksServeFile, AsksAudit};
+ghost use Rattle.diamond_cli.specs.Words.{AsksRemote, AsksLoad, AsksNothing, words_refusal};
 ghost use Rattle.diamond_cli.specs.Filed.{storing};
-ghost use Rattle.diamond_cli.specs.Commands.{RunsScript, Serves, Files, AuditsFile, Remotes, LoadsScript};
+ghost use Rattle.diamond_cli.specs.Commands.{RunsScript, Serves, Files, AuditsFile, Remotes};
+ghost use Rattle.diamond_cli.specs.Commands.{LoadsScript};
 
 use crate::audited::audit_file;
 use crate::file::serve_file;
 use crate::remote::remote;
 use crate::run::run;
 use crate::serve::serve;
+use crate::service::Asked;
 use cli_words::{Plan, WordsError, read_words};
 use dio_core::{Disk, Listener, Sink, Source};
 use load_runner::run_load;
@@ -25,6 +28,16 @@ use std::thread::Threads;
 
 /// The status where the words ask for nothing that the program does.
 pub const BAD_WORDS: u8 = 1;
+
+/// The status where no command was read from the words.
+fn words_status(error: WordsError<'_>) -> u8
+    ensures { result ≡ words_refusal error.entry }
+{
+    match error {
+        WordsError::BadWords(_) => BAD_WORDS,
+        WordsError::NoMemory => NO_MEMORY,
+    }
+}
 
 /// Runs a command, and answers its status. The words don't include the program's name. What starts threads and waits
 /// comes first; `run` doesn't wait for others, and starts threads where many watches are run anew.
@@ -68,37 +81,47 @@ pub fn diamond<R: Threads + Wait + Sync, S: Source, W: Sink, D: Disk + Send, N: 
     // 1 comes where the words ask for nothing, memory aside, and only there; and there all is as before.
     ensures form { result ≡ BAD_WORDS → AsksNothing words.now }
     ensures other { AsksNothing words.now → (result ≡ BAD_WORDS) ⊎ (result ≡ NO_MEMORY) }
-    ensures unread { AsksNothing words.now → (source.new ≡ source.old) × (listener.new ≡ listener.old) }
+    ensures unread { AsksNothing words.now → (source.new ≡ source.old)
+        × (listener.new ≡ listener.old) }
     ensures unwritten { AsksNothing words.now → (sink.new ≡ sink.old) × (disk.new ≡ disk.old) }
 
     // `run` keeps what a run of a script promises, and doesn't use the disk or the listener.
-    ensures run { AsksRun words.now → RunsScript words.now result (reading S.Source source.old source.new)
-        (writing W.Sink sink.old sink.new) }
-    ensures unused_by_run { AsksRun words.now → (disk.new ≡ disk.old) × (listener.new ≡ listener.old) }
+    ensures run { AsksRun words.now → RunsScript words.now result
+        (reading S.Source source.old source.new) (writing W.Sink sink.old sink.new) }
+    ensures unused_by_run { AsksRun words.now → (disk.new ≡ disk.old)
+        × (listener.new ≡ listener.old) }
 
     // `serve` keeps what it promises of its sessions. It doesn't use the source, nor, without a file, the disk.
-    ensures serve { AsksServe words.now → Serves words.now N.Link.Source N.Link.Sink
-        (gatherings N.Listener listener.old listener.new) result (writing W.Sink sink.old sink.new) }
-    ensures unused_by_serve { AsksServe words.now → (source.new ≡ source.old) × (disk.new ≡ disk.old) }
-    ensures files { AsksServeFile words.now → Files words.now N.Link.Source N.Link.Sink (gatherings N.Listener listener.old listener.new)
-        (storing D.Disk disk.old disk.new) result (writing W.Sink sink.old sink.new) }
+    ensures serve { AsksServe words.now → Serves words.now N.Link.Source N.Link.Sink N.Link.ended
+        (gatherings N.Listener listener.old listener.new) result
+        (writing W.Sink sink.old sink.new) }
+    ensures unused_by_serve { AsksServe words.now → (source.new ≡ source.old)
+        × (disk.new ≡ disk.old) }
+    ensures files { AsksServeFile words.now → Files words.now N.Link.Source N.Link.Sink N.Link.ended
+        (gatherings N.Listener listener.old listener.new) (storing D.Disk disk.old disk.new)
+        result (writing W.Sink sink.old sink.new) }
     ensures unused_by_files { AsksServeFile words.now → source.new ≡ source.old }
 
     // `audit` keeps what it promises of the journal in the disk's file. It doesn't use the source or the listener, and no call of
     // it changes the disk.
-    ensures audit { AsksAudit words.now → AuditsFile words.now (storing D.Disk disk.old disk.new) result
-        (writing W.Sink sink.old sink.new) }
-    ensures unused_by_audit { AsksAudit words.now → (source.new ≡ source.old) × (listener.new ≡ listener.old) }
-    ensures spared_by_audit { AsksAudit words.now → (D.state disk.new ≡ D.state disk.old) × (D.past disk.new ≡ D.past disk.old) }
+    ensures audit { AsksAudit words.now → AuditsFile words.now
+        (storing D.Disk disk.old disk.new) result (writing W.Sink sink.old sink.new) }
+    ensures unused_by_audit { AsksAudit words.now → (source.new ≡ source.old)
+        × (listener.new ≡ listener.old) }
+    ensures spared_by_audit { AsksAudit words.now → (D.state disk.new ≡ D.state disk.old)
+        × (D.past disk.new ≡ D.past disk.old) }
 
     // `remote` keeps what it promises of its session, and doesn't use the disk.
-    ensures remote { AsksRemote words.now → Remotes words.now N.Link.Source N.Link.Sink (gatherings N.Listener listener.old listener.new)
-        result (ends S.Source W.Sink source.old sink.old) (ends S.Source W.Sink source.new sink.new) }
+    ensures remote { AsksRemote words.now → Remotes words.now N.Link.Source N.Link.Sink
+        (gatherings N.Listener listener.old listener.new) result
+        (ends S.Source W.Sink source.old sink.old) (ends S.Source W.Sink source.new sink.new) }
     ensures unused_by_remote { AsksRemote words.now → disk.new ≡ disk.old }
 
     // `load` keeps what it promises of its line, and uses nothing but the sink.
-    ensures load { AsksLoad words.now → LoadsScript words.now result (writing W.Sink sink.old sink.new) }
-    ensures unused_by_load { AsksLoad words.now → (source.new ≡ source.old) × (disk.new ≡ disk.old) × (listener.new ≡ listener.old) }
+    ensures load { AsksLoad words.now → LoadsScript words.now result
+        (writing W.Sink sink.old sink.new) }
+    ensures unused_by_load { AsksLoad words.now → (source.new ≡ source.old) × (disk.new ≡ disk.old)
+        × (listener.new ≡ listener.old) }
 {
     match read_words(alloc, words) {
         Ok(Plan::Run(settings)) => run(rt, alloc, &settings, source, sink),
@@ -110,10 +133,18 @@ pub fn diamond<R: Threads + Wait + Sync, S: Source, W: Sink, D: Disk + Send, N: 
                 wire,
                 ..
             },
-        ) => match file {
-            None => serve(rt, alloc, &settings, sessions, wire, sink, listener),
-            Some(_) => serve_file(rt, alloc, &settings, sessions, wire, sink, disk, listener),
-        },
+        ) => {
+            let asked = Asked {
+                rt,
+                settings,
+                sessions,
+                wire,
+            };
+            match file {
+                None => serve(alloc, &asked, sink, listener),
+                Some(_) => serve_file(alloc, &asked, sink, disk, listener),
+            }
+        }
         Ok(Plan::Audit { at, .. }) => audit_file(alloc, at, sink, disk),
         Ok(Plan::Remote { .. }) => remote(alloc, source, sink, listener),
         Ok(
@@ -123,7 +154,6 @@ pub fn diamond<R: Threads + Wait + Sync, S: Source, W: Sink, D: Disk + Send, N: 
                 count,
             },
         ) => run_load(alloc, &settings, seed, count, sink),
-        Err(WordsError::BadWords(_)) => BAD_WORDS,
-        Err(WordsError::NoMemory) => NO_MEMORY,
+        Err(error) => words_status(error),
     }
 }

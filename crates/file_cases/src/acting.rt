@@ -6,7 +6,7 @@ ghost use Rattle.dio_core.specs.Disks.{NothingPending};
 use crate::difference::{Difference, Found};
 use crate::lines::text_of;
 use crate::recovering::{as_it_reads, find_unsafe, reads_alone, recovery_of};
-use crate::serving::{Wanted, serve, serve_whole};
+use crate::serving::{Wanted, Whole, serve, serve_whole};
 use commit_file::MemDisk;
 use diamond_cli::NOT_JOURNAL;
 use plain_data::Text;
@@ -135,14 +135,11 @@ fn answer<R: Threads + Wait + Sync>(
     requires { NothingPending (Some disk.old.present) }
 {
     let replies = text_of(alloc, said.replies)?;
-    serve_whole(
-        threads,
-        alloc,
-        disk,
-        script,
-        replies.as_slice(),
-        said.commits,
-    )
+    let whole = Whole {
+        replies: replies.as_slice(),
+        commits: said.commits,
+    };
+    serve_whole(threads, alloc, disk, script, whole)
 }
 
 /// Serves a session over a disk.

@@ -6,7 +6,7 @@ ghost use Rattle.dio_core.specs.Disks.{NothingPending};
 use crate::difference::Difference;
 use crate::lines::{add_reply, text_of};
 use crate::recovering::leaves_either;
-use crate::serving::{Wanted, serve, serve_whole};
+use crate::serving::{Wanted, Whole, serve, serve_whole};
 use commit_file::MemDisk;
 use diamond_cli::DISK_FAULT;
 use std::alloc::{AllocError, Global};
@@ -96,20 +96,30 @@ impl<'s> Session<'s> {
     }
 }
 
+/// A session of which the disk denies some transactions, and how many commits it makes.
+#[derive(Clone, Copy)]
+struct Course<'s> {
+    session: Session<'s>,
+    denied: Denied,
+    commits: usize,
+}
+
 /// Serves a session that says this, and gives how what comes of it differs.
 fn tell_script<R: Threads + Wait + Sync>(
     threads: &R,
     alloc: Global,
     disk: &mut MemDisk,
     script: &[u8],
-    session: Session,
-    denied: Denied,
-    commits: usize,
+    course: Course,
 ) -> Result<Option<Difference>, AllocError>
     requires { NothingPending (Some disk.old.present) }
 {
-    let replies = replies_of(alloc, session.replies, denied)?;
-    serve_whole(threads, alloc, disk, script, replies.as_slice(), commits)
+    let replies = replies_of(alloc, course.session.replies, course.denied)?;
+    let whole = Whole {
+        replies: replies.as_slice(),
+        commits: course.commits,
+    };
+    serve_whole(threads, alloc, disk, script, whole)
 }
 
 /// Serves the session, and gives how what comes of it differs.
@@ -117,22 +127,12 @@ fn tell<R: Threads + Wait + Sync>(
     threads: &R,
     alloc: Global,
     disk: &mut MemDisk,
-    session: Session,
-    denied: Denied,
-    commits: usize,
+    course: Course,
 ) -> Result<Option<Difference>, AllocError>
     requires { NothingPending (Some disk.old.present) }
 {
-    let script = text_of(alloc, session.lines)?;
-    tell_script(
-        threads,
-        alloc,
-        disk,
-        script.as_slice(),
-        session,
-        denied,
-        commits,
-    )
+    let script = text_of(alloc, course.session.lines)?;
+    tell_script(threads, alloc, disk, script.as_slice(), course)
 }
 
 /// Whether each image that a crash may leave after so many calls has what was acknowledged, or this and one more.
@@ -179,8 +179,12 @@ fn told_whole<R: Threads + Wait + Sync>(
 ) -> Result<Option<Difference>, AllocError>
     requires { NothingPending (Some disk.old.present) }
 {
-    let commits = session.lines.len();
-    let told = tell(threads, alloc, disk, session, Denied::None, commits)?;
+    let course = Course {
+        session,
+        denied: Denied::None,
+        commits: session.lines.len(),
+    };
+    let told = tell(threads, alloc, disk, course)?;
     Ok(if told.is_none() && disk.calls() != session.all_calls() {
         Some(Difference::Calls(disk.calls()))
     } else {
@@ -243,14 +247,12 @@ fn keeps_told<'s, R: Threads + Wait + Sync>(
     told: &[&'s str],
 ) -> Result<bool, AllocError> {
     let mut disk = MemDisk::new(alloc, session.file, failing.fails)?;
-    let answered = tell(
-        threads,
-        alloc,
-        &mut disk,
+    let course = Course {
         session,
-        failing.denied,
-        told.len(),
-    )?;
+        denied: failing.denied,
+        commits: told.len(),
+    };
+    let answered = tell(threads, alloc, &mut disk, course)?;
     Ok(answered.is_none() && is_kept(alloc, &disk, told, failing.first)?)
 }
 

@@ -23,6 +23,13 @@ pub(crate) struct Wanted<'a> {
     pub(crate) replies: &'a [u8],
 }
 
+/// What has to come of a session that ends with 0: what it is answered, and how many commits there are then.
+#[derive(Clone, Copy)]
+pub(crate) struct Whole<'a> {
+    pub(crate) replies: &'a [u8],
+    pub(crate) commits: usize,
+}
+
 /// Whether the session was answered so, or nothing where it wasn't served.
 fn took(listener: &MemListener, replies: &[u8]) -> bool {
     match listener.back().as_slice().first() {
@@ -91,22 +98,21 @@ pub(crate) fn serve<R: Threads + Wait + Sync>(
     Ok(Some(Difference::Replies))
 }
 
-/// Serves a session that ends with 0, after which there are so many commits.
+/// Serves a session that ends with 0, and gives how what comes of it differs.
 pub(crate) fn serve_whole<R: Threads + Wait + Sync>(
     threads: &R,
     alloc: Global,
     disk: &mut MemDisk,
     script: &[u8],
-    replies: &[u8],
-    commits: usize,
+    whole: Whole,
 ) -> Result<Option<Difference>, AllocError>
     requires { NothingPending (Some disk.old.present) }
 {
-    let line = end_of(alloc, commits)?;
+    let line = end_of(alloc, whole.commits)?;
     let wanted = Wanted {
         status: 0,
         line: line.as_slice(),
-        replies,
+        replies: whole.replies,
     };
     serve(threads, alloc, disk, script, wanted)
 }

@@ -22,6 +22,20 @@ use txn_lang::{Commit, CommitList};
 /// commits there are then.
 type Outcome = (u32, u32, bool, usize);
 
+/// A listener, and how many of its links are served at most.
+#[derive(Drop)]
+struct Arrivals<Li> {
+    listener: Li,
+    sessions: u32,
+}
+
+/// A journal that was just opened, and the settings of its store.
+#[derive(Drop)]
+struct Beginning<'s, K: Keep> {
+    opened: Opened<Book<K>>,
+    settings: &'s Settings,
+}
+
 /// Serves the links of a listener over a store that was just opened.
 fn serve_over<
     Li: Listener,
@@ -32,19 +46,25 @@ fn serve_over<
 >(
     rt: &R,
     alloc: Global,
-    opened: Opened<Book<K>>,
-    settings: &Settings,
+    beginning: Beginning<'_, K>,
     gate: G,
-    listener: &mut Li,
-    sessions: u32,
+    arrivals: &mut Arrivals<Li>,
 ) -> Result<Outcome, AllocError>
-    requires lock { opened.lock ≡ N.lock }
-    requires settings { HasSettings opened.lock.origin settings.now }
-    requires author { opened.front.author ≡ None }
-    requires from { from_in opened.lock.origin ≡ opened.lock.base }
+    requires lock { beginning.opened.lock ≡ N.lock }
+    requires settings { HasSettings beginning.opened.lock.origin beginning.settings.now }
+    requires author { beginning.opened.front.author ≡ None }
+    requires from { from_in beginning.opened.lock.origin ≡ beginning.opened.lock.base }
 {
+    let Beginning { opened, settings } = beginning;
     let (store, mut pass) = Store::<K, G, N>::new(alloc, settings, opened, gate)?;
-    let tally = serve_all(rt, alloc, listener, &store, &mut pass, sessions)?;
+    let tally = serve_all(
+        rt,
+        alloc,
+        &mut arrivals.listener,
+        &store,
+        &mut pass,
+        arrivals.sessions,
+    )?;
     let closed = store.close(rt, pass);
     Ok((
         tally.accepted,
@@ -60,14 +80,17 @@ fn serve_kept<Li: Listener, K: Keep + Send, G: Gate + Drop + Send + Sync, R: Thr
     alloc: Global,
     keep: K,
     gate: G,
-    listener: &mut Li,
-    sessions: u32,
+    arrivals: &mut Arrivals<Li>,
 ) -> Result<Outcome, AllocError>
     requires { K.kept keep ≡ None }
 {
     let settings = Settings::standard();
     let opened = open(alloc, &settings, keep, CommitList::new(alloc))?;
-    serve_over::<_, _, _, Brand, _>(rt, alloc, opened, &settings, gate, listener, sessions)
+    let beginning = Beginning {
+        opened,
+        settings: &settings,
+    };
+    serve_over::<_, _, _, Brand, _>(rt, alloc, beginning, gate, arrivals)
 }
 
 /// What a link gives in pieces of 16 bytes, and which of its reads and writes fail.
@@ -85,14 +108,17 @@ struct Row {
     back: &'static [Back],
 }
 
-/// The listener of a row.
-fn listener_of(alloc: Global, row: &Row) -> Result<MemListener, AllocError> {
+/// The listener of a row, and how many sessions are asked for.
+fn arrivals_of(alloc: Global, row: &Row) -> Result<Arrivals<MemListener>, AllocError> {
     let mut links = MemLinks::new(alloc);
     for (bytes, reads, writes) in row.links {
         links.push(MemLink::new(alloc, bytes, 16, reads, writes)?)?;
     }
     let plan = FaultPlan::new(alloc, row.accepts)?;
-    Ok(MemListener::failing(alloc, links, plan))
+    Ok(Arrivals {
+        listener: MemListener::failing(alloc, links, plan),
+        sessions: row.sessions,
+    })
 }
 
 /// Whether the links were given back so, in their order.
@@ -116,11 +142,11 @@ fn is_served<K: Keep + Send, G: Gate + Drop + Send + Sync, R: Threads + Wait + S
 ) -> bool
     requires { K.kept keep ≡ None }
 {
-    let Ok(mut listener) = listener_of(alloc, row) else {
+    let Ok(mut arrivals) = arrivals_of(alloc, row) else {
         return false;
     };
-    serve_kept(rt, alloc, keep, gate, &mut listener, row.sessions) == Ok(row.outcome)
-        && gave_back(&listener, row.back)
+    serve_kept(rt, alloc, keep, gate, &mut arrivals) == Ok(row.outcome)
+        && gave_back(&arrivals.listener, row.back)
 }
 
 const LINES: &[u8] = b"do counter(\"x\").add(2); emit counter(\"x\").get();\nseen\nquit\n";
@@ -414,11 +440,18 @@ fn ending_in(listener: &MemListener, outcome: &Result<Outcome, AllocError>, faul
 }
 
 /// Two links, in pieces of three bytes. Of the first these calls fail.
-fn two_links(alloc: Global, reads: &[u64], writes: &[u64]) -> Result<MemListener, AllocError> {
+fn two_links(
+    alloc: Global,
+    reads: &[u64],
+    writes: &[u64],
+) -> Result<Arrivals<MemListener>, AllocError> {
     let mut links = MemLinks::new(alloc);
     links.push(MemLink::new(alloc, COMMITS, 3, reads, writes)?)?;
     links.push(MemLink::new(alloc, b"at 0 emit 7;\nquit\n", 3, &[], &[])?)?;
-    Ok(MemListener::new(alloc, links))
+    Ok(Arrivals {
+        listener: MemListener::new(alloc, links),
+        sessions: 2,
+    })
 }
 
 /// How a session ends whose link fails at these calls, beside one whose link doesn't.
@@ -429,11 +462,11 @@ fn end_beside<R: Threads + Wait + Sync>(
     writes: &[u64],
     fault: u8,
 ) -> Ending {
-    let Ok(mut listener) = two_links(alloc, reads, writes) else {
+    let Ok(mut arrivals) = two_links(alloc, reads, writes) else {
         return Ending::Otherwise;
     };
-    let outcome = serve_kept(rt, alloc, MemKeep, Open, &mut listener, 2);
-    ending_in(&listener, &outcome, fault)
+    let outcome = serve_kept(rt, alloc, MemKeep, Open, &mut arrivals);
+    ending_in(&arrivals.listener, &outcome, fault)
 }
 
 /// How many calls the link of a session makes at most, a number far above what it does.

@@ -286,14 +286,20 @@ fn work<N: Naming, R: Wait>(
     (link, status)
 }
 
+/// The links of two clients.
+#[derive(Drop)]
+struct Links {
+    one: MemLink,
+    two: MemLink,
+}
+
 /// Two links, each served in a thread of its own.
 fn serve_two<N: Naming + Send + Sync, R: Threads + Wait + Abort + Sync>(
     rt: &R,
     alloc: Global,
     opened: Opened<Book<MemKeep>>,
     settings: &Settings,
-    one: MemLink,
-    two: MemLink,
+    links: Links,
 ) -> Result<Both, AllocError>
     requires lock { opened.lock ≡ N.lock }
     requires settings { HasSettings opened.lock.origin settings.now }
@@ -306,6 +312,7 @@ fn serve_two<N: Naming + Send + Sync, R: Threads + Wait + Abort + Sync>(
         Err(JoinError::NoMemory) => return Err(AllocError),
         Err(JoinError::Clients(_)) => panic!(rt; "no client's number is left"),
     };
+    let Links { one, two } = links;
     Ok(join(
         rt,
         || work(rt, alloc, &store, first, one),
@@ -317,12 +324,11 @@ fn serve_two<N: Naming + Send + Sync, R: Threads + Wait + Abort + Sync>(
 fn both_served<R: Threads + Wait + Abort + Sync>(
     rt: &R,
     alloc: Global,
-    one: MemLink,
-    two: MemLink,
+    links: Links,
 ) -> Result<Both, AllocError> {
     let settings = Settings::standard();
     let opened = open(alloc, &settings, MemKeep, CommitList::new(alloc))?;
-    serve_two::<Brand, _>(rt, alloc, opened, &settings, one, two)
+    serve_two::<Brand, _>(rt, alloc, opened, &settings, links)
 }
 
 /// Whether a link came to its end, and has taken this.
@@ -374,7 +380,7 @@ fn is_talk<R: Threads + Wait + Abort + Sync>(rt: &R, alloc: Global, talk: &Talk)
         MemLink::new(alloc, talk.first, 16, &[], &[]),
         MemLink::new(alloc, talk.second, 16, &[], &[]),
     ) {
-        (Ok(one), Ok(two)) => are_answered_so(&both_served(rt, alloc, one, two), talk),
+        (Ok(one), Ok(two)) => { are_answered_so(&both_served(rt, alloc, Links { one, two }), talk) }
         _ => false,
     }
 }

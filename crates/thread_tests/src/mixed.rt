@@ -4,7 +4,7 @@ ghost use Rattle.std.specs.Prelude.{◌≡◌, ◌<◌, None};
 ghost use Rattle.diamond_store.specs.Numbers.{from_in, HasSettings};
 
 use crate::meeting::{new_client, reply_to_new_client};
-use crate::replay::{Script, replies_stand, reply_of};
+use crate::replay::{Line, Script, replies_stand, reply_of};
 use diamond_store::{Book, Open, open};
 use history_lock::{Naming, Opened};
 use journal_core::MemKeep;
@@ -138,7 +138,12 @@ fn add_look(
         return Ok(());
     };
     let verb = format!(in alloc; "at {number} ")?;
-    script.add(alloc, client, verb.as_bytes(), body, reply)
+    let line = Line {
+        client,
+        verb: verb.as_bytes(),
+        body,
+    };
+    script.add(alloc, line, reply)
 }
 
 /// What a client saw of prefixes is added to the script.
@@ -228,7 +233,12 @@ fn add_last_look(
     let Some(body) = LOOK.strip_prefix(b"look ") else {
         return Ok(());
     };
-    script.add_said(alloc, 0, verb.as_bytes(), body, seen.as_slice())
+    let line = Line {
+        client: 0,
+        verb: verb.as_bytes(),
+        body,
+    };
+    script.add_said(alloc, line, seen.as_slice())
 }
 
 /// Whether what was said is answered by one thread, and so is the last look.

@@ -16,6 +16,14 @@ pub(crate) struct Script {
     output: Vec<u8>,
 }
 
+/// A client's line, of a verb and a body.
+#[derive(Clone, Copy)]
+pub(crate) struct Line<'a> {
+    pub(crate) client: u32,
+    pub(crate) verb: &'a [u8],
+    pub(crate) body: &'a [u8],
+}
+
 impl Script {
     /// No line yet.
     pub(crate) fn new(alloc: Global) -> Script {
@@ -25,15 +33,14 @@ impl Script {
         }
     }
 
-    /// A client's line of a verb and a body, and what is to be said to it.
+    /// A line, and what is to be said to it.
     pub(crate) fn add_said(
         &mut self,
         alloc: Global,
-        client: u32,
-        verb: &[u8],
-        body: &[u8],
+        line: Line<'_>,
         said: &[u8],
     ) -> Result<(), AllocError> {
+        let Line { client, verb, body } = line;
         let name = format!(in alloc; "{client} ")?;
         for part in [name.as_bytes(), verb, body, b"\n"] {
             self.lines.extend_from_slice(part)?;
@@ -44,17 +51,15 @@ impl Script {
         Ok(())
     }
 
-    /// A client's line of a verb and a body, and its reply.
+    /// A line, and its reply.
     pub(crate) fn add(
         &mut self,
         alloc: Global,
-        client: u32,
-        verb: &[u8],
-        body: &[u8],
+        line: Line<'_>,
         reply: &Reply,
     ) -> Result<(), AllocError> {
         let said = print_reply(alloc, reply)?;
-        self.add_said(alloc, client, verb, body, said.as_slice())
+        self.add_said(alloc, line, said.as_slice())
     }
 
     /// The commits of a journal: each client's body again, with its number and its outcome.
@@ -65,7 +70,12 @@ impl Script {
     ) -> Result<(), AllocError> {
         for commit in commits {
             let reply = Reply::Commit(commit.number, commit.outcome.clone()?);
-            self.add(alloc, commit.client, b"do ", commit.body.as_slice(), &reply)?;
+            let line = Line {
+                client: commit.client,
+                verb: b"do ",
+                body: commit.body.as_slice(),
+            };
+            self.add(alloc, line, &reply)?;
         }
         Ok(())
     }

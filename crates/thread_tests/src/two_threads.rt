@@ -47,19 +47,25 @@ impl Tally {
     }
 }
 
+/// A line that a client says again and again.
+#[derive(Clone, Copy)]
+struct Refrain {
+    line: &'static [u8],
+    times: u64,
+}
+
 /// A client says a line again and again.
 fn repeat<N: Naming, R: Wait>(
     alloc: Global,
     talker: &mut Talker<'_, N, R>,
-    line: &[u8],
-    times: u64,
+    refrain: Refrain,
 ) -> Result<Tally, SessionError> {
     let mut tally = Tally {
         commits: 0,
         aborts: 0,
     };
-    for _ in 0..times {
-        let turn = talker.say(alloc, line)?;
+    for _ in 0..refrain.times {
+        let turn = talker.say(alloc, refrain.line)?;
         tally = tally.with(&turn);
     }
     Ok(tally)
@@ -71,11 +77,10 @@ fn work<N: Naming, R: Wait>(
     alloc: Global,
     store: &TestStore<N>,
     newcomer: Newcomer<N>,
-    line: &[u8],
-    times: u64,
+    refrain: Refrain,
 ) -> (TestPass<N>, Result<Tally, SessionError>) {
     let mut talker = Talker::new(rt, alloc, store, newcomer);
-    let tally = repeat(alloc, &mut talker, line, times);
+    let tally = repeat(alloc, &mut talker, refrain);
     (talker.into_pass(), tally)
 }
 
@@ -93,15 +98,14 @@ fn both_work<N: Naming + Send + Sync, R: Threads + Wait + Abort + Sync>(
     alloc: Global,
     store: &TestStore<N>,
     mut first: Founder<N>,
-    line: &[u8],
-    times: u64,
+    refrain: Refrain,
 ) -> Result<Done, AllocError> {
     let zero = new_client(rt, store, &mut first);
     let one = new_client(rt, store, &mut first);
     let ((zero, of_zero), (one, of_one)) = join(
         rt,
-        || work(rt, alloc, store, zero, line, times),
-        || work(rt, alloc, store, one, line, times),
+        || work(rt, alloc, store, zero, refrain),
+        || work(rt, alloc, store, one, refrain),
     );
     let (Ok(of_zero), Ok(of_one)) = (of_zero, of_one) else {
         panic!(rt; "a session ended by an error");
@@ -123,8 +127,7 @@ fn in_two_threads<N: Naming + Send + Sync, R: Threads + Wait + Abort + Sync>(
     alloc: Global,
     opened: Opened<Book<MemKeep>>,
     settings: &Settings,
-    line: &[u8],
-    times: u64,
+    refrain: Refrain,
 ) -> Result<Done, AllocError>
     requires lock { opened.lock ≡ N.lock }
     requires settings { HasSettings opened.lock.origin settings.now }
@@ -132,19 +135,18 @@ fn in_two_threads<N: Naming + Send + Sync, R: Threads + Wait + Abort + Sync>(
     requires author { opened.front.author ≡ None }
 {
     let (store, first) = TestStore::<N>::new(alloc, settings, opened, Open)?;
-    both_work(rt, alloc, &store, Founder::new(first), line, times)
+    both_work(rt, alloc, &store, Founder::new(first), refrain)
 }
 
 /// The same on a new store.
 fn two_work<R: Threads + Wait + Abort + Sync>(
     rt: &R,
     alloc: Global,
-    line: &[u8],
-    times: u64,
+    refrain: Refrain,
 ) -> Result<Done, AllocError> {
     let settings = Settings::standard();
     let opened = open(alloc, &settings, MemKeep, CommitList::new(alloc))?;
-    in_two_threads::<Brand, _>(rt, alloc, opened, &settings, line, times)
+    in_two_threads::<Brand, _>(rt, alloc, opened, &settings, refrain)
 }
 
 /// Whether a third client saw so many commits, and the counter raised by one by each.
@@ -158,7 +160,7 @@ fn is_raised(alloc: Global, done: &Done, commits: u64) -> bool {
 #[test]
 fn additions_of_two_threads_all_count(rt: HostRuntime) {
     let line = b"do counter(\"x\").add(1);";
-    match two_work(&rt, rt.alloc(), line, 200) {
+    match two_work(&rt, rt.alloc(), Refrain { line, times: 200 }) {
         Ok(done) => {
             assert_eq!(rt; (done.zero.commits, done.one.commits), (200, 200));
             assert!(rt; is_raised(rt.alloc(), &done, 400));
@@ -170,7 +172,7 @@ fn additions_of_two_threads_all_count(rt: HostRuntime) {
 #[test]
 fn what_two_threads_raise_counts_their_commits(rt: HostRuntime) {
     let line = b"do counter(\"x\").put(counter(\"x\").get() + 1);";
-    match two_work(&rt, rt.alloc(), line, 100) {
+    match two_work(&rt, rt.alloc(), Refrain { line, times: 100 }) {
         Ok(done) => {
             let commits = done.zero.commits.saturating_add(done.one.commits);
             let aborts = done.zero.aborts.saturating_add(done.one.aborts);
@@ -204,9 +206,9 @@ fn wait_and_work<N: Naming + Send + Sync, R: Threads + Wait + Abort + Sync>(
     alloc: Global,
     store: &TestStore<N>,
     mut first: Founder<N>,
-    line: &[u8],
-    times: u64,
+    refrain: Refrain,
 ) {
+    let times = refrain.times;
     let waiter = new_client(rt, store, &mut first);
     let other = new_client(rt, store, &mut first);
     let writer = new_client(rt, store, &mut first);
@@ -217,7 +219,7 @@ fn wait_and_work<N: Naming + Send + Sync, R: Threads + Wait + Abort + Sync>(
             join(
                 rt,
                 || awaited(rt, store, other, times),
-                || work(rt, alloc, store, writer, line, times),
+                || work(rt, alloc, store, writer, refrain),
             )
         },
     );
@@ -232,8 +234,7 @@ fn wait_on_its_own<N: Naming + Send + Sync, R: Threads + Wait + Abort + Sync>(
     alloc: Global,
     opened: Opened<Book<MemKeep>>,
     settings: &Settings,
-    line: &[u8],
-    times: u64,
+    refrain: Refrain,
 )
     requires lock { opened.lock ≡ N.lock }
     requires settings { HasSettings opened.lock.origin settings.now }
@@ -242,7 +243,7 @@ fn wait_on_its_own<N: Naming + Send + Sync, R: Threads + Wait + Abort + Sync>(
 {
     match TestStore::<N>::new(alloc, settings, opened, Open) {
         Ok((store, first)) => {
-            wait_and_work(rt, alloc, &store, Founder::new(first), line, times);
+            wait_and_work(rt, alloc, &store, Founder::new(first), refrain);
         }
         Err(_) => assert!(rt; false),
     }
@@ -252,8 +253,9 @@ fn wait_on_its_own<N: Naming + Send + Sync, R: Threads + Wait + Abort + Sync>(
 fn wait_for<R: Threads + Wait + Abort + Sync>(rt: &R, alloc: Global, times: u64) {
     let settings = Settings::standard();
     let line = b"do counter(\"x\").add(1);";
+    let refrain = Refrain { line, times };
     match open(alloc, &settings, MemKeep, CommitList::new(alloc)) {
-        Ok(opened) => wait_on_its_own::<Brand, _>(rt, alloc, opened, &settings, line, times),
+        Ok(opened) => wait_on_its_own::<Brand, _>(rt, alloc, opened, &settings, refrain),
         Err(_) => assert!(rt; false),
     }
 }

@@ -92,6 +92,13 @@ fn is_told(tally: &Tally) -> bool {
     (tally.accepted, tally.faulted, tally.failed) == (3, 1, false)
 }
 
+/// The links of clients far away, and that of a session of lines.
+#[derive(Drop)]
+struct Racing {
+    listener: MemListener,
+    lines: MemLink,
+}
+
 /// Two clients far away, one that sends what is no request, and a session of lines race over one store: each commits twice, and
 /// there are as many commits then.
 fn all_race<N: Naming + Send + Sync, R: Threads + Wait + Abort + Sync>(
@@ -99,8 +106,7 @@ fn all_race<N: Naming + Send + Sync, R: Threads + Wait + Abort + Sync>(
     alloc: Global,
     opened: Opened<Book<MemKeep>>,
     settings: &Settings,
-    listener: MemListener,
-    link: MemLink,
+    racing: Racing,
 ) -> Result<bool, AllocError>
     requires lock { opened.lock ≡ N.lock }
     requires settings { HasSettings opened.lock.origin settings.now }
@@ -113,9 +119,10 @@ fn all_race<N: Naming + Send + Sync, R: Threads + Wait + Abort + Sync>(
         Err(JoinError::NoMemory) => return Err(AllocError),
         Err(JoinError::Clients(_)) => panic!(rt; "no client's number is left"),
     };
+    let Racing { listener, lines } = racing;
     let ((status, _link), back) = join(
         rt,
-        || lines_served(rt, alloc, &store, other, link),
+        || lines_served(rt, alloc, &store, other, lines),
         || links_served(rt, alloc, &store, first, listener),
     );
     match back {
@@ -138,11 +145,13 @@ fn is_raced<R: Threads + Wait + Abort + Sync>(rt: &R, alloc: Global) -> Result<b
     links.push(MemLink::new(alloc, WIRE, 16, &[], &[])?)?;
     links.push(MemLink::new(alloc, WIRE, 16, &[], &[])?)?;
     links.push(MemLink::new(alloc, b"\x00\x00\x00\x01\x63", 16, &[], &[])?)?;
-    let listener = MemListener::new(alloc, links);
-    let lines = MemLink::new(alloc, LINES, 16, &[], &[])?;
+    let racing = Racing {
+        listener: MemListener::new(alloc, links),
+        lines: MemLink::new(alloc, LINES, 16, &[], &[])?,
+    };
     let settings = Settings::standard();
     let opened = open(alloc, &settings, MemKeep, CommitList::new(alloc))?;
-    all_race::<Brand, _>(rt, alloc, opened, &settings, listener, lines)
+    all_race::<Brand, _>(rt, alloc, opened, &settings, racing)
 }
 
 #[test]

@@ -194,19 +194,19 @@ fn requests_are_answered_to_the_links_end(rt: HostRuntime) {
     }
 }
 
-/// Whether the requests over a link that gives these bytes come to a status, these replies, and so many commits.
-fn comes_to<R: Wait>(
-    rt: &R,
-    alloc: Global,
-    bytes: &[u8],
+/// What comes of the requests over a link: the status, what is answered, and how many commits there are then.
+struct Outcome {
     status: u8,
-    replies: &[u8],
+    replies: &'static [u8],
     commits: usize,
-) -> bool {
+}
+
+/// Whether this comes of the requests over a link that gives these bytes.
+fn comes_to<R: Wait>(rt: &R, alloc: Global, bytes: &[u8], outcome: &Outcome) -> bool {
     match MemLink::new(alloc, bytes, 1000, &[], &[]) {
         Ok(mut link) => {
-            serve_alone(rt, alloc, &mut link) == Ok((status, commits))
-                && link.sink.taken() == replies
+            serve_alone(rt, alloc, &mut link) == Ok((outcome.status, outcome.commits))
+                && link.sink.taken() == outcome.replies
         }
         Err(_) => false,
     }
@@ -221,17 +221,31 @@ fn appended() -> &'static [u8] {
     APPENDED
 }
 
+/// A link is refused.
+static REFUSED: Outcome = Outcome {
+    status: MALFORMED,
+    replies: b"",
+    commits: 0,
+};
+
+/// The commit is made and told.
+static COMMITTED: Outcome = Outcome {
+    status: WHOLE,
+    replies: APPENDED,
+    commits: 1,
+};
+
 /// A link that ends within a frame ends with 10 wherever that is, and the commit that the frame spells isn't made.
 #[test]
 fn links_that_end_within_a_frame_are_refused(rt: HostRuntime) {
     let frame = append();
     for end in 1..frame.len() {
         assert!(rt;
-            comes_to(&rt, rt.alloc(), &frame[..end], MALFORMED, b"", 0),
+            comes_to(&rt, rt.alloc(), &frame[..end], &REFUSED),
             "byte {end}"
         );
     }
-    assert!(rt; comes_to(&rt, rt.alloc(), frame, WHOLE, appended(), 1));
+    assert!(rt; comes_to(&rt, rt.alloc(), frame, &COMMITTED));
 }
 
 /// How many reads there are where each gives a byte: one for each byte of the frame, and one that finds the link's end.

@@ -171,23 +171,29 @@ fn served<N: Naming, R: Wait>(
     (link, status)
 }
 
-/// A new client with a link that gives these bytes. There are numbers for a few.
+/// What the link of a client gives, who is far away or has a session of lines.
+#[derive(Clone, Copy)]
+struct Given<'b> {
+    bytes: &'b [u8],
+    is_far: bool,
+}
+
+/// A new client with a link that gives this. There are numbers for a few.
 fn new_racer<N: Naming, R: Abort>(
     rt: &R,
     alloc: Global,
     store: &TestStore<N>,
     first: &mut Founder<N>,
-    bytes: &[u8],
-    is_far: bool,
+    given: Given<'_>,
 ) -> Result<Racer<N>, AllocError> {
     let Some(newcomer) = first.join(store) else {
         panic!(rt; "no client's number is left");
     };
-    let link = MemLink::new(alloc, bytes, 16, &[], &[])?;
+    let link = MemLink::new(alloc, given.bytes, 16, &[], &[])?;
     Ok(Racer {
         newcomer,
         link,
-        is_far,
+        is_far: given.is_far,
     })
 }
 
@@ -200,10 +206,18 @@ fn racers<N: Naming, R: Abort>(
     frames: &[u8],
 ) -> Result<Vec<Racer<N>>, AllocError> {
     let lines = lines(alloc)?;
+    let requests = Given {
+        bytes: frames,
+        is_far: true,
+    };
+    let session = Given {
+        bytes: lines.as_slice(),
+        is_far: false,
+    };
     let mut all = Vec::new(alloc);
-    all.push(new_racer(rt, alloc, store, first, frames, true)?)?;
-    all.push(new_racer(rt, alloc, store, first, frames, true)?)?;
-    all.push(new_racer(rt, alloc, store, first, lines.as_slice(), false)?)?;
+    all.push(new_racer(rt, alloc, store, first, requests)?)?;
+    all.push(new_racer(rt, alloc, store, first, requests)?)?;
+    all.push(new_racer(rt, alloc, store, first, session)?)?;
     Ok(all)
 }
 

@@ -3,9 +3,9 @@ use Rattle.diamond_cli.proofs.Served.{serves-form}
 use Rattle.diamond_cli.proofs.serve.serve.Goals as goal
 
 -- links bring requests
-pub returns-then-wire : goal.returns-then-wire
-returns-then-wire g c = serves-form _ true _ _ _ _ _ _ c.if-wire.true c.serve_way.ensures
+pub returns-then-asked-clause-serves : goal.returns-then-asked-clause-serves
+returns-then-asked-clause-serves g c = serves-form _ true _ _ _ _ _ _ c.if-asked.true c.serve_way.ensures.serves
 
 -- or lines
-pub returns-else-wire : goal.returns-else-wire
-returns-else-wire g c = serves-form _ false _ _ _ _ _ _ c.if-wire.false c.serve_way-else-wire.ensures
+pub returns-else-asked-clause-serves : goal.returns-else-asked-clause-serves
+returns-else-asked-clause-serves g c = serves-form _ false _ _ _ _ _ _ c.if-asked.false c.serve_way-else-asked.ensures.serves

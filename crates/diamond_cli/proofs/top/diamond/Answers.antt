@@ -1,10 +1,11 @@
-use Rattle.std.proofs.Common.{refl}
+use Rattle.std.proofs.Common.{refl, sym, ◌∙◌}
 use Rattle.std.specs.Prelude.{None, Some}
 use Rattle.cli_words.specs.Forms.{texts}
 use Rattle.script_runner.proofs.Promises.{unstarted}
 use Rattle.load_runner.proofs.Told.{loads-unmade}
 use Rattle.diamond_cli.proofs.Asked.{plan-asks, runs-something, serves-something, files-something, audits-something, remotes-something, loads-something}
-use Rattle.diamond_cli.proofs.Asked.{with-file, refused-no-plan, other-command, memory-no-file}
+use Rattle.diamond_cli.proofs.Asked.{with-file, other-command, memory-no-file}
+use Rattle.diamond_cli.proofs.Asked.{spelled-wanting, unread-nothing, unread-statuses}
 use Rattle.diamond_cli.proofs.Auditing.{no-memory, audits-unread}
 use Rattle.diamond_cli.proofs.Reached.{unreached}
 use Rattle.diamond_cli.proofs.Recovered.{refused-serves}
@@ -84,7 +85,8 @@ returns-in-None-clause-serve g c = λ asks. record {
   sessions = c.in-Ok-Serve.sessions;
   wire = c.in-Ok-Serve.wire;
   asked = plan-asks (texts c.args.words.now) _ _ c.in-Ok-Serve.ensures.plan (with-file _ _ _ _ _ None _ c.in-Ok-Serve.field-0-is c.in-None.is);
-  promises = c.serve.ensures;
+  promises = c.serve.ensures.serves;
+  ends = c.serve.ensures.ends;
 }
 
 pub returns-in-None-clause-files : goal.returns-in-None-clause-files
@@ -142,7 +144,8 @@ returns-in-Ok-Serve-clause-files g c = λ asks. record {
   path = c.in-Some.field-0;
   wire = c.in-Ok-Serve.wire;
   asked = plan-asks (texts c.args.words.now) _ _ c.in-Ok-Serve.ensures.plan (with-file _ _ _ _ _ _ _ c.in-Ok-Serve.field-0-is c.in-Some.is);
-  promises = c.serve_file.ensures;
+  promises = c.serve_file.ensures.serves;
+  ends = c.serve_file.ensures.ends;
 }
 
 pub returns-in-Ok-Serve-clause-audit : goal.returns-in-Ok-Serve-clause-audit
@@ -301,93 +304,72 @@ returns-in-Ok-Load-clause-load g c = λ asks. record {
   promises = c.run_load.ensures;
 }
 
--- ---- words of no form
+-- ---- no command was read from the words
 
-pub returns-in-Err-BadWords-clause-form : goal.returns-in-Err-BadWords-clause-form
-returns-in-Err-BadWords-clause-form g c = λ one. (
-  λ asks. refused-no-plan (texts c.args.words.now) _ c.in-Err-BadWords.field-0-0 _ c.in-Err-BadWords.ensures.refused c.in-Err-BadWords.field-0-is asks.1,
-  λ asks. refused-no-plan (texts c.args.words.now) _ c.in-Err-BadWords.field-0-0 _ c.in-Err-BadWords.ensures.refused c.in-Err-BadWords.field-0-is asks.4,
-  λ asks. refused-no-plan (texts c.args.words.now) _ c.in-Err-BadWords.field-0-0 _ c.in-Err-BadWords.ensures.refused c.in-Err-BadWords.field-0-is asks.5,
-  λ asks. refused-no-plan (texts c.args.words.now) _ c.in-Err-BadWords.field-0-0 _ c.in-Err-BadWords.ensures.refused c.in-Err-BadWords.field-0-is asks.2,
-  λ asks. refused-no-plan (texts c.args.words.now) _ c.in-Err-BadWords.field-0-0 _ c.in-Err-BadWords.ensures.refused c.in-Err-BadWords.field-0-is asks.1,
-  λ asks. refused-no-plan (texts c.args.words.now) _ c.in-Err-BadWords.field-0-0 _ c.in-Err-BadWords.ensures.refused c.in-Err-BadWords.field-0-is asks.3,
-)
+pub returns-clause-form : goal.returns-clause-form
+returns-clause-form g c = λ is.
+    unread-nothing c.args.words.now c.in-Err.error c.in-Err.ensures.refused (sym c.words_status.ensures ∙ is)
 
-pub returns-in-Err-BadWords-clause-run : goal.returns-in-Err-BadWords-clause-run
-returns-in-Err-BadWords-clause-run g c = λ asks. absurd
-    (refused-no-plan (texts c.args.words.now) _ c.in-Err-BadWords.field-0-0 _ c.in-Err-BadWords.ensures.refused c.in-Err-BadWords.field-0-is asks.1)
-
-pub returns-in-Err-BadWords-clause-serve : goal.returns-in-Err-BadWords-clause-serve
-returns-in-Err-BadWords-clause-serve g c = λ asks. absurd
-    (refused-no-plan (texts c.args.words.now) _ c.in-Err-BadWords.field-0-0 _ c.in-Err-BadWords.ensures.refused c.in-Err-BadWords.field-0-is asks.4)
-
-pub returns-in-Err-BadWords-clause-files : goal.returns-in-Err-BadWords-clause-files
-returns-in-Err-BadWords-clause-files g c = λ asks. absurd
-    (refused-no-plan (texts c.args.words.now) _ c.in-Err-BadWords.field-0-0 _ c.in-Err-BadWords.ensures.refused c.in-Err-BadWords.field-0-is asks.5)
-
-pub returns-in-Err-BadWords-clause-audit : goal.returns-in-Err-BadWords-clause-audit
-returns-in-Err-BadWords-clause-audit g c = λ asks. absurd
-    (refused-no-plan (texts c.args.words.now) _ c.in-Err-BadWords.field-0-0 _ c.in-Err-BadWords.ensures.refused c.in-Err-BadWords.field-0-is asks.2)
-
-pub returns-in-Err-BadWords-clause-remote : goal.returns-in-Err-BadWords-clause-remote
-returns-in-Err-BadWords-clause-remote g c = λ asks. absurd
-    (refused-no-plan (texts c.args.words.now) _ c.in-Err-BadWords.field-0-0 _ c.in-Err-BadWords.ensures.refused c.in-Err-BadWords.field-0-is asks.1)
-
-pub returns-in-Err-BadWords-clause-load : goal.returns-in-Err-BadWords-clause-load
-returns-in-Err-BadWords-clause-load g c = λ asks. absurd
-    (refused-no-plan (texts c.args.words.now) _ c.in-Err-BadWords.field-0-0 _ c.in-Err-BadWords.ensures.refused c.in-Err-BadWords.field-0-is asks.3)
-
--- ---- no memory for the words
+pub returns-clause-other : goal.returns-clause-other
+returns-clause-other g c = λ no. rw c.words_status.ensures (unread-statuses c.in-Err.error)
 
 pub returns-clause-run : goal.returns-clause-run
-returns-clause-run g c = λ asks. record {
-  settings = asks.0;
-  asked = asks.1;
-  promises = unstarted asks.0 (g.S.Source.left c.args.source.now) (g.W.Sink.taken c.args.sink.now) (g.W.Sink.passed c.args.sink.now)
-      (g.S.Source.read_faults c.args.source.now) (g.W.Sink.write_faults c.args.sink.now);
-}
+returns-clause-run g c = λ asks.
+    rw (c.words_status.ensures ∙ spelled-wanting (texts c.args.words.now) c.in-Err.error _ c.in-Err.ensures.refused asks.1) record {
+      settings = asks.0;
+      asked = asks.1;
+      promises = unstarted asks.0 (g.S.Source.left c.args.source.now) (g.W.Sink.taken c.args.sink.now) (g.W.Sink.passed c.args.sink.now)
+          (g.S.Source.read_faults c.args.source.now) (g.W.Sink.write_faults c.args.sink.now);
+    }
 
 pub returns-clause-serve : goal.returns-clause-serve
-returns-clause-serve g c = λ asks. record {
-  settings = asks.0;
-  address = asks.1;
-  sessions = asks.2;
-  wire = asks.3;
-  asked = asks.4;
-  promises = unended-serves _ _ asks.0 asks.2 _ _ refl refl;
-}
+returns-clause-serve g c = λ asks.
+    rw (c.words_status.ensures ∙ spelled-wanting (texts c.args.words.now) c.in-Err.error _ c.in-Err.ensures.refused asks.4) record {
+      settings = asks.0;
+      address = asks.1;
+      sessions = asks.2;
+      wire = asks.3;
+      asked = asks.4;
+      promises = unended-serves _ _ asks.0 asks.2 _ _ refl refl;
+      ends = λ no. absurd (no refl);
+    }
 
 pub returns-clause-files : goal.returns-clause-files
-returns-clause-files g c = λ asks. record {
-  settings = asks.0;
-  address = asks.1;
-  sessions = asks.2;
-  path = asks.3;
-  wire = asks.4;
-  asked = asks.5;
-  promises = refused-serves _ _ asks.0 asks.2 _ _ _ error.NoMemory (refl, refl);
-}
+returns-clause-files g c = λ asks.
+    rw (c.words_status.ensures ∙ spelled-wanting (texts c.args.words.now) c.in-Err.error _ c.in-Err.ensures.refused asks.5) record {
+      settings = asks.0;
+      address = asks.1;
+      sessions = asks.2;
+      path = asks.3;
+      wire = asks.4;
+      asked = asks.5;
+      promises = refused-serves _ _ asks.0 asks.2 _ _ _ error.NoMemory (refl, refl);
+      ends = λ no. absurd (no refl);
+    }
 
 pub returns-clause-audit : goal.returns-clause-audit
-returns-clause-audit g c = λ asks. record {
-  path = asks.0;
-  at = asks.1;
-  asked = asks.2;
-  promises = audits-unread _ _ asks.1 error.NoMemory (no-memory _ _ refl (refl, refl));
-}
+returns-clause-audit g c = λ asks.
+    rw (c.words_status.ensures ∙ spelled-wanting (texts c.args.words.now) c.in-Err.error _ c.in-Err.ensures.refused asks.2) record {
+      path = asks.0;
+      at = asks.1;
+      asked = asks.2;
+      promises = audits-unread _ _ asks.1 error.NoMemory (no-memory _ _ refl (refl, refl));
+    }
 
 pub returns-clause-remote : goal.returns-clause-remote
-returns-clause-remote g c = λ asks. record {
-  address = asks.0;
-  asked = asks.1;
-  promises = unreached _ _ _ _;
-}
+returns-clause-remote g c = λ asks.
+    rw (c.words_status.ensures ∙ spelled-wanting (texts c.args.words.now) c.in-Err.error _ c.in-Err.ensures.refused asks.1) record {
+      address = asks.0;
+      asked = asks.1;
+      promises = unreached _ _ _ _;
+    }
 
 pub returns-clause-load : goal.returns-clause-load
-returns-clause-load g c = λ asks. record {
-  settings = asks.0;
-  seed = asks.1;
-  count = asks.2;
-  asked = asks.3;
-  promises = loads-unmade asks.0 asks.1 asks.2 _ refl refl;
-}
+returns-clause-load g c = λ asks.
+    rw (c.words_status.ensures ∙ spelled-wanting (texts c.args.words.now) c.in-Err.error _ c.in-Err.ensures.refused asks.3) record {
+      settings = asks.0;
+      seed = asks.1;
+      count = asks.2;
+      asked = asks.3;
+      promises = loads-unmade asks.0 asks.1 asks.2 _ refl refl;
+    }
