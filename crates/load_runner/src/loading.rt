@@ -1,6 +1,6 @@
 //! The script of a load is made, run, and counted.
 
-ghost use Rattle.std.specs.Prelude.{◌≡◌, IfOk};
+ghost use Rattle.std.specs.Prelude.{◌≡◌, ◌↔◌, ℕ, Ok, Some, IfOk};
 ghost use Rattle.load_script.specs.LoadLine.{load_line as printed};
 ghost use Rattle.script_runner.specs.Play.{play, commits_left};
 ghost use Rattle.script_runner.specs.Script.{writing};
@@ -17,17 +17,26 @@ use watch_reruns::One;
 /// How many bytes the streams in memory give and take in a call, at most.
 const PIECE: usize = 65_536;
 
+/// How many commits are counted of a run with this status. An error is want of memory: in the run, or to count them.
+fn counted_at(status: u8, commits: Option<u64>) -> Result<u64, AllocError>
+    ensures { (n : ℕ) → (result ≡ Ok n) ↔ ((status ≡ WHOLE) × (commits ≡ Some n)) }
+{
+    match commits {
+        Some(commits) if status == WHOLE => Ok(commits),
+        _ => Err(AllocError),
+    }
+}
+
 /// The line of a script of so many rounds: it is run, and its replies are counted. An error is want of memory, in the run too.
 fn counted(alloc: Global, settings: &Settings, count: u32, text: &[u8]) -> Result<Text, AllocError>
-    ensures { IfOk result (λ line. line ≡ printed count (play settings.now text.now).output (commits_left settings.now text.now)) }
+    ensures { IfOk result (λ line. line ≡ printed count (play settings.now text.now).output
+        (commits_left settings.now text.now)) }
 {
     let mut source = MemSource::new(alloc, text, PIECE, &[])?;
     let mut sink = MemSink::new(alloc, PIECE, &[])?;
     let (status, commits) = run_counted(alloc, settings, &mut source, &mut sink, &One);
-    match commits {
-        Some(commits) if status == WHOLE => load_line(alloc, count, sink.taken(), commits),
-        _ => Err(AllocError),
-    }
+    let commits = counted_at(status, commits)?;
+    load_line(alloc, count, sink.taken(), commits)
 }
 
 /// The line of the load that a number makes. An error is want of memory.
