@@ -1,23 +1,54 @@
 //! Cuts a text into tokens.
 
-ghost use Rattle.std.specs.Prelude.{◌≡◌, ◌<◌, ◌-◌, ◌^◌, length, IfOk, Ok};
+ghost use Rattle.std.specs.Prelude.{◌≡◌, ◌<◌, ◌-◌, ◌^◌, length, map, IfOk, Ok};
+ghost use Rattle.std.specs.Str.{bytes_eq};
 ghost use Rattle.txn_grammar.specs.declared.limit.TheConstants.{LONGEST_NAME};
 ghost use Rattle.txn_grammar.specs.declared.token.Token.TheVariants as t;
 ghost use Rattle.txn_grammar.specs.Lexer as spec;
+ghost use Rattle.txn_grammar.specs.Spellings.{spelled_in};
 ghost use Rattle.txn_grammar.specs.code.Unquoted as code;
 
 use crate::limit::LONGEST_NAME;
 use crate::number::number_value;
-use crate::spelling::{mark, reserved_word};
-use crate::symbol::Symbol;
+use crate::symbol::{MARKS, Symbol, WORDS};
 use crate::token::{Lexeme, Spot, Token};
 use dtext::{is_blank, is_digit, is_letter, is_word, next_text};
 use plain_data::{OrNoMemory, Text};
 use predictive_parsing::{Cursor, Refused, prefix_len};
 use std::alloc::{AllocError, Global};
 
+/// Whether the texts are one. Most differ in length, and what is left is short, so it is compared byte by byte.
+fn same(mut spelling: &[u8], mut text: &[u8]) -> bool
+    ensures { result ≡ bytes_eq spelling.entry.now text.entry.now }
+{
+    if spelling.len() != text.len() {
+        return false;
+    }
+    while let ([wanted, others @ ..], [found, behind @ ..]) = (spelling, text) {
+        if wanted != found {
+            return false;
+        }
+        spelling = others;
+        text = behind;
+    }
+    spelling.is_empty() && text.is_empty()
+}
+
+/// The reserved word or the mark of the row that has this spelling.
+fn spelled_in(mut rows: &[(&[u8], Symbol)], text: &[u8]) -> Option<Symbol>
+    ensures { result ≡ spelled_in (map (λ row. (row.0.now, row.1)) rows.entry.now) text.now }
+{
+    while let [row, rest @ ..] = rows {
+        if same(row.0, text) {
+            return Some(row.1);
+        }
+        rows = rest;
+    }
+    None
+}
+
 /// A reserved word, or else a name.
-#[tactic(auto, unfolding(crate::specs::Lexer::word_token))]
+#[tactic(auto, unfolding(crate::specs::Lexer::word_token, crate::specs::Spellings::reserved_word))]
 fn word_token(alloc: Global, word: &[u8]) -> Result<Token, AllocError>
     ensures token { IfOk result (λ token. token ≡ spec.word_token word.now) }
 
@@ -27,7 +58,7 @@ fn word_token(alloc: Global, word: &[u8]) -> Result<Token, AllocError>
     if word.len() > LONGEST_NAME {
         return Ok(Token::Malformed);
     }
-    if let Some(symbol) = reserved_word(word) {
+    if let Some(symbol) = spelled_in(&WORDS, word) {
         return Ok(Token::Symbol(symbol));
     }
     let name = Text::from_slice(alloc, word)?;
@@ -86,17 +117,18 @@ fn text_at(alloc: Global, text: &[u8]) -> Result<Lexeme, AllocError>
 }
 
 /// The mark of two bytes at the front. The second byte of each is `=`.
+#[tactic(auto, unfolding(crate::specs::Spellings::mark))]
 fn long_mark(text: &[u8]) -> Option<Symbol>
     ensures { result ≡ spec.long_mark text.now }
 {
     if text.len() < 2 || text[1] != b'=' {
         return None;
     }
-    mark(&text[..2])
+    spelled_in(&MARKS, &text[..2])
 }
 
 /// The mark at the front, the longer one where two fit.
-#[tactic(auto, unfolding(crate::specs::Lexer::mark_at))]
+#[tactic(auto, unfolding(crate::specs::Lexer::mark_at, crate::specs::Spellings::mark))]
 fn mark_at(text: &[u8]) -> Lexeme
     requires { 0 < length text.now }
     ensures { result ≡ spec.mark_at text.now }
@@ -107,7 +139,7 @@ fn mark_at(text: &[u8]) -> Lexeme
             len: 2,
         };
     }
-    let token = match mark(&text[..1]) {
+    let token = match spelled_in(&MARKS, &text[..1]) {
         Some(symbol) => Token::Symbol(symbol),
         None => Token::Malformed,
     };

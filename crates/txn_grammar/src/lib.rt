@@ -16,7 +16,6 @@ mod meaning;
 mod number;
 mod operation;
 mod rank;
-mod spelling;
 mod symbol;
 mod target;
 mod token;

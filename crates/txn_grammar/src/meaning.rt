@@ -91,15 +91,8 @@ pub fn kind_at(token: &Token) -> Option<Kind>
     }
 }
 
-/// Whether the kinds are one.
-#[tactic(auto, unfolding(crate::specs::Tokens::same_kind))]
-fn same_kind(a: Kind, b: Kind) -> bool
-    ensures { result ≡ spec.same_kind a b }
-{
-    a == b
-}
-
 /// The operation in the row of this kind and spelling.
+#[tactic(auto, unfolding(crate::specs::Tokens::same_kind))]
 fn operation_in<W: Copy>(
     mut rows: &[(Kind, &[u8], W, usize)],
     kind: Kind,
@@ -108,7 +101,7 @@ fn operation_in<W: Copy>(
     ensures { result ≡ spec.operation_in (map (λ row. (row.0, row.1.now, row.2, row.3)) rows.entry.now) kind spelling.now }
 {
     while let [row, rest @ ..] = rows {
-        if same_kind(row.0, kind) && row.1 == spelling {
+        if row.0 == kind && row.1 == spelling {
             return Some(Operation {
                 word: row.2,
                 arguments: row.3,
@@ -119,26 +112,15 @@ fn operation_in<W: Copy>(
     None
 }
 
-/// The kind's operation in these rows that the token names.
-fn named_in<W: Copy>(
-    rows: &[(Kind, &[u8], W, usize)],
-    kind: Kind,
-    token: &Token,
-) -> Option<Operation<W>>
-    ensures { result ≡ spec.of_name (spec.operation_in (map (λ row. (row.0, row.1.now, row.2, row.3)) rows.now) kind) token.now }
-{
-    match token {
-        Token::Name(name) => operation_in(rows, kind, name.as_slice()),
-        _ => None,
-    }
-}
-
 /// The kind's write that the token names.
 #[tactic(auto, unfolding(crate::specs::Tokens::write_named))]
 pub fn write_at(kind: Kind, token: &Token) -> Option<Operation<WriteWord>>
     ensures { result ≡ spec.write_of kind token.now }
 {
-    named_in(&WRITES, kind, token)
+    match token {
+        Token::Name(name) => operation_in(&WRITES, kind, name.as_slice()),
+        _ => None,
+    }
 }
 
 /// The kind's read that the token names.
@@ -146,7 +128,10 @@ pub fn write_at(kind: Kind, token: &Token) -> Option<Operation<WriteWord>>
 pub fn read_at(kind: Kind, token: &Token) -> Option<Operation<ReadWord>>
     ensures { result ≡ spec.read_of kind token.now }
 {
-    named_in(&READS, kind, token)
+    match token {
+        Token::Name(name) => operation_in(&READS, kind, name.as_slice()),
+        _ => None,
+    }
 }
 
 /// The leaf that the token is.

@@ -1,6 +1,6 @@
 use Rattle.std.proofs.Common.{◌≡◌, length}
 use Rattle.std.specs.Str.{bytes_eq}
-use Rattle.txn_grammar.proofs.spelling.same.Given as goal
+use Rattle.txn_grammar.proofs.lexer.same.Given as goal
 
 abbrev pub invariant-loop-spelling : goal.invariant-loop-spelling
 invariant-loop-spelling l = bytes_eq l.spelling l.text ≡ bytes_eq l.initial.spelling l.initial.text
