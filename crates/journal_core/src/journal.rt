@@ -16,6 +16,7 @@ ghost use Rattle.journal_core.specs.Journals.{CanAppend, Decides, IsSlot, IfDisk
 
 use crate::appended::Appended;
 use crate::copying::changes_by;
+use crate::deciding::least_past;
 use crate::keep::Keep;
 use crate::lent::LentTail;
 use crate::log::Log;
@@ -188,7 +189,10 @@ impl<K: Keep> Journal<K> {
         ensures steps { steps.new ≤ steps.old + journals.steps_past ready.now self.now }
     {
         let (based, fronts) = (ready.based.as_slice(), ready.fronts.as_slice());
-        self.log.least_past(based, fronts, steps)
+        if self.log.commits().is_empty() {
+            return None;
+        }
+        least_past(based, &self.log, fronts, steps)
     }
 
     /// What is left of an append where nothing clashes: adds the slot's commit, or says why not, at the limit or by a fault
@@ -202,27 +206,6 @@ impl<K: Keep> Journal<K> {
         if self.length() >= limit as u64 {
             return Appended::Full(limit);
         }
-        self.add(slot)
-    }
-
-    /// The witness of the clash that an append answered, as long as nothing was added since: the observation with the
-    /// base at which it was made, and the part of the commit that clashes with it. It costs the deltas of that one
-    /// commit at most.
-    pub fn witness(&self, ready: &Ready, found: &Found) -> Result<Witness, AllocError>
-        requires found { journals.found_past ready.now self.now ≡ Some found.now }
-        requires observed { AreBasedOfOneKind ready.now.based }
-        ensures names { IfOk result (IsWitnessOf ready.now.based self.now.commits found.now) }
-        ensures kinds { IfOk result IsOfOneKind }
-    {
-        witness_of(ready.based.as_slice(), self.log.commits(), found)
-    }
-
-    /// Adds the slot's commit unless the keeper fails.
-    fn add(&mut self, slot: Slot) -> Appended
-        requires { journals.CanAdd K.stands_for slot self.old }
-        ensures adds { journals.Adds slot.commit self.old result self.new }
-        ensures may_fail { IfDiskFault result (K.may_fail ≡ true) }
-    {
         let before = self.keeper.keep_faults();
         if self.keeper.keep(&slot.bytes).is_err() {
             return Appended::DiskFault(before, self.keeper.keep_faults());
@@ -235,6 +218,18 @@ impl<K: Keep> Journal<K> {
         let number = commit.number;
         self.log.add(commit, changes);
         Appended::Number(number)
+    }
+
+    /// The witness of the clash that an append answered, as long as nothing was added since: the observation with the
+    /// base at which it was made, and the part of the commit that clashes with it. It costs the deltas of that one
+    /// commit at most.
+    pub fn witness(&self, ready: &Ready, found: &Found) -> Result<Witness, AllocError>
+        requires found { journals.found_past ready.now self.now ≡ Some found.now }
+        requires observed { AreBasedOfOneKind ready.now.based }
+        ensures names { IfOk result (IsWitnessOf ready.now.based self.now.commits found.now) }
+        ensures kinds { IfOk result IsOfOneKind }
+    {
+        witness_of(ready.based.as_slice(), self.log.commits(), found)
     }
 }
 

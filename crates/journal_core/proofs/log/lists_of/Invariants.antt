@@ -1,7 +1,7 @@
 use Rattle.std.proofs.Common.{◌≡◌, ℕ, ◌++◌, drop, length}
 use Rattle.journal_core.specs.Changes.{changes, of_shard}
 use Rattle.journal_core.specs.code.ByShard.{list_at}
-use Rattle.journal_core.proofs.by_shard.lists_of.Given as goal
+use Rattle.journal_core.proofs.log.lists_of.Given as goal
 
 -- the changes so far, and those of the rest, are all
 abbrev pub invariant-loop-commit : goal.invariant-loop-commit

@@ -1,5 +1,5 @@
 use Rattle.std.proofs.Common.{◌-◌, ◌<◌, length}
-use Rattle.journal_core.proofs.sealed.near_end.Given as goal
+use Rattle.journal_core.proofs.walk.near_end_sealed.Given as goal
 
 abbrev pub invariant-loop-step : goal.invariant-loop-step
 invariant-loop-step l = 0 < l.step

@@ -1,6 +1,6 @@
 use Rattle.std.proofs.Common.{◌-◌, length, arith, rules}
 use Rattle.journal_core.proofs.Segmented.{ends-before}
-use Rattle.journal_core.proofs.sealed.near_end.Goals as goal
+use Rattle.journal_core.proofs.walk.near_end_sealed.Goals as goal
 
 -- the segment at the place ends by the number, and so do those before it
 pub returns-then-end_of-number : goal.returns-then-end_of-number

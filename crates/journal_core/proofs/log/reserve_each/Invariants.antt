@@ -1,6 +1,6 @@
 use Rattle.std.proofs.Common.{◌≡◌, ℕ, ◌≤◌, ◌<◌, length}
 use Rattle.journal_core.specs.code.ByShard.{HasGrown, room_at}
-use Rattle.journal_core.proofs.by_shard.reserve_each.Given as goal
+use Rattle.journal_core.proofs.log.reserve_each.Given as goal
 
 -- the lists up to a place have memory
 abbrev pub invariant-loop-place : goal.invariant-loop-place

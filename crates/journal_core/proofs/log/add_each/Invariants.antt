@@ -1,7 +1,7 @@
 use Rattle.std.proofs.Common.{◌≡◌, ℕ, ◌++◌, length}
 use Rattle.journal_core.specs.Changes.{of_shard}
 use Rattle.journal_core.specs.code.ByShard.{list_at, HasRoom}
-use Rattle.journal_core.proofs.by_shard.add_each.Given as goal
+use Rattle.journal_core.proofs.log.add_each.Given as goal
 
 -- the changes added so far, and those of the rest, are all; there is memory for the rest
 abbrev pub invariant-loop-change : goal.invariant-loop-change

@@ -1,7 +1,7 @@
 use Rattle.std.proofs.Common.{◌∙◌, sym, ap}
 use Rattle.std.specs.Option.{option_copied}
 use Rattle.journal_core.proofs.Segmented.{end-of_last}
-use Rattle.journal_core.proofs.sealed.end_of.Goals as goal
+use Rattle.journal_core.proofs.walk.end_of.Goals as goal
 
 pub returns-in-Some : goal.returns-in-Some
 returns-in-Some c =
