@@ -1,7 +1,7 @@
 use Rattle.std.proofs.Common.{◌≡◌, ◌≤◌, ◌+◌, drop}
 use Rattle.journal_core.specs.Holds.{bars_of}
 use Rattle.hold_core.specs.Books.{most_hits}
-use Rattle.hold_core.proofs.barring.first_bar.Given as goal
+use Rattle.hold_core.proofs.book.first_bar.Given as goal
 
 -- none of the holds so far bars, none is the client's, and a step is left for each observation of the others that is met
 abbrev pub invariant-loop-hold : goal.invariant-loop-hold

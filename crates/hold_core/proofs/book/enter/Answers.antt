@@ -1,5 +1,5 @@
 use Rattle.hold_core.proofs.Beside.{is-book-of, entered-is}
-use Rattle.hold_core.proofs.entering.enter.Goals as goal
+use Rattle.hold_core.proofs.book.enter.Goals as goal
 
 pub returns-in-Some-clause-book : goal.returns-in-Some-clause-book
 returns-in-Some-clause-book g c =
