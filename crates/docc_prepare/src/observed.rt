@@ -1,26 +1,17 @@
-//! Observations with the fronts at which their addresses were read.
+//! What a run observed: with the fronts at which the addresses were read, and in which order the shards are prepared.
 
 ghost use Rattle.std.specs.Prelude.{◌≡◌, ◌≤◌, IfOk};
 ghost use Rattle.rdt_types.specs.declared.limits.TheConstants.{LEAST_SHARDS, MOST_SHARDS};
 ghost use Rattle.docc_prepare.specs.Attempts as spec;
 
 use abort_witness::{Based, BasedList};
+use journal_core::PreparedFront;
 use plain_data::copied;
-use rdt_types::{Address, shard_of};
+use rdt_types::shard_of;
 use std::alloc::{AllocError, Global};
 use txn_lang::{Seen, Snaps};
 
-/// The front at which an address was read.
-fn base_at(snaps: &Snaps, address: &Address) -> u64
-    ensures { result ≡ spec.base_at snaps.now address.now }
-{
-    match snaps.get(address) {
-        Some(snap) => snap.base,
-        None => 0,
-    }
-}
-
-/// An observation with the base of its address.
+/// An observation with its base, the front at which its address was read.
 #[inline(always)]
 fn with_base(snaps: &Snaps, seen: &Seen) -> Result<Based, AllocError>
     ensures { IfOk result (λ based. based ≡ spec.with_base snaps.now seen.now) }
@@ -28,7 +19,7 @@ fn with_base(snaps: &Snaps, seen: &Seen) -> Result<Based, AllocError>
     Ok(Based {
         address: copied(&seen.address)?,
         obs: copied(&seen.obs)?,
-        base: base_at(snaps, &seen.address),
+        base: snaps.get(&seen.address).map_or(0, |snap| snap.base),
     })
 }
 
@@ -65,4 +56,47 @@ pub(crate) fn based_in(
         }
     }
     Ok(inside)
+}
+
+/// Whether a shard was prepared.
+fn has_front(fronts: &[PreparedFront], shard: u8) -> bool
+    ensures { result ≡ spec.has_front fronts.now shard }
+{
+    for prepared in fronts {
+        if prepared.shard == shard {
+            return true;
+        }
+    }
+    false
+}
+
+/// The lesser of a shard and one that may have been found.
+fn lesser(shard: u8, found: Option<u8>) -> u8
+    ensures { result ≡ spec.lesser shard found }
+{
+    match found {
+        Some(other) if other < shard => other,
+        _ => shard,
+    }
+}
+
+/// The least shard that holds an observed address and has no front, if there is one.
+#[tactic(auto, using(crate::proofs::Lowest::nothing_more))]
+pub(crate) fn least_unprepared(
+    shards: u8,
+    fronts: &[PreparedFront],
+    observations: &[Seen],
+) -> Option<u8>
+    requires { (LEAST_SHARDS ≤ shards) × (shards ≤ MOST_SHARDS) }
+    ensures { result ≡ spec.least_unprepared shards fronts.now observations.now }
+{
+    let mut found = None;
+    for seen in observations {
+        let shard = shard_of(&seen.address, shards);
+        if has_front(fronts, shard) {
+            continue;
+        }
+        found = Some(lesser(shard, found));
+    }
+    found
 }

@@ -8,7 +8,6 @@ ghost use Rattle.docc_prepare.specs.Attempts.{PausesAt, KeepsPauses, Prepares};
 
 use crate::attempt::{Attempt, Next};
 use crate::observed;
-use crate::order::least_unprepared;
 use abort_witness::BasedList;
 use journal_core::{FrontList, PreparedFront, Ready};
 use plain_data::OrderedMap;
@@ -41,7 +40,7 @@ impl Attempt {
         ensures { result ≡ spec.next_of self.now.shards self.now.fronts (done run) }
     {
         let observations = run.observations.as_slice();
-        match least_unprepared(self.shards, self.fronts.as_slice(), observations) {
+        match observed::least_unprepared(self.shards, self.fronts.as_slice(), observations) {
             Some(shard) => Next::Prepare(shard, run),
             None => Next::Append(run),
         }

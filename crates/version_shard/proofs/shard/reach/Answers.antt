@@ -3,7 +3,7 @@ use Rattle.journal_core.specs.Tails.{tail_of}
 use Rattle.version_shard.specs.Shards.{versions_of}
 use Rattle.version_shard.specs.code.Following.{cut_along}
 use Rattle.version_shard.proofs.Keeping.{reaches-whole, reaches-part}
-use Rattle.version_shard.proofs.following.reach.Goals as goal
+use Rattle.version_shard.proofs.shard.reach.Goals as goal
 
 pub overflow_sub-front : goal.overflow_sub-front
 overflow_sub-front c = let p = c.in-Err.ensures.err.past in omega (arith, p)

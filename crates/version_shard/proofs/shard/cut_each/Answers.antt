@@ -2,7 +2,7 @@ use Rattle.std.proofs.Common.{◌∙◌}
 use Rattle.change_feed.specs.Lists.{listed}
 use Rattle.version_shard.specs.Shards.{versions_of}
 use Rattle.version_shard.proofs.Pieces.{cut-pieces}
-use Rattle.version_shard.proofs.following.cut_each.Goals as goal
+use Rattle.version_shard.proofs.shard.cut_each.Goals as goal
 
 -- each piece is cut after those before it
 pub loop-piece-preserved : goal.loop-piece-preserved

@@ -3,7 +3,7 @@ use Rattle.rdt_types.specs.declared.address.Address.{Address}
 use Rattle.change_feed.specs.Lists.{listed, pieces_left}
 use Rattle.version_shard.specs.Shards.{versions_of}
 use Rattle.version_shard.specs.code.Following.{cut_along}
-use Rattle.version_shard.proofs.following.cut_each.Given as goal
+use Rattle.version_shard.proofs.shard.cut_each.Given as goal
 
 -- once the rest is cut, all are
 abbrev pub invariant-loop-piece : goal.invariant-loop-piece

@@ -1,6 +1,6 @@
 use Rattle.std.proofs.Common.{◌≡◌, drop}
 use Rattle.docc_prepare.specs.Attempts.{has_front}
-use Rattle.docc_prepare.proofs.order.has_front.Given as goal
+use Rattle.docc_prepare.proofs.observed.has_front.Given as goal
 
 -- none so far
 abbrev pub invariant-loop-prepared : goal.invariant-loop-prepared

@@ -1,7 +1,7 @@
 use Rattle.std.proofs.Common.{◌++◌, drop}
 use Rattle.change_feed.specs.Lists.{listed, pieces_left}
 use Rattle.version_shard.proofs.Pieces.{AreLeft}
-use Rattle.version_shard.proofs.following.follow_each.Given as goal
+use Rattle.version_shard.proofs.shard.follow_each.Given as goal
 
 -- those so far were followed
 abbrev pub invariant-loop-piece : goal.invariant-loop-piece

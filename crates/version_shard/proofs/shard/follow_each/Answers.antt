@@ -2,10 +2,12 @@ use Rattle.std.proofs.Common.{◌+◌, ◌++◌, drop, length, sym, ap, ◌∙�
 use Rattle.std.proofs.Math.ListN.{drop_of_length-le}
 use Rattle.change_feed.specs.Lists.{listed}
 use Rattle.journal_core.specs.Tails.{tail_of}
-use Rattle.version_shard.specs.Shards.{Kept, versions_of}
-use Rattle.version_shard.proofs.Keeping.{up_to-next, stops, at_err, at_ok}
+use Rattle.version_shard.specs.Shards.{Kept, horizon_at, versions_of}
+use Rattle.version_shard.specs.code.Following.{followed}
+use Rattle.version_shard.specs.code.Marks.{changed_by}
+use Rattle.version_shard.proofs.Keeping.{up_to-next, stops, at_err, at_ok, put_one}
 use Rattle.version_shard.proofs.Pieces.{AreLeft, all-left, pieces-left, none-left, next-in, next-at, next-within, next-versions, one-less}
-use Rattle.version_shard.proofs.following.follow_each.Goals as goal
+use Rattle.version_shard.proofs.shard.follow_each.Goals as goal
 
 pub loop-piece-init : goal.loop-piece-init
 loop-piece-init c =
@@ -17,8 +19,8 @@ loop-change-init c =
     pieces-left c.args.window c.args.tail.now.changes.now (listed c.loop-piece.rest) c.args.kept.now c.loop-piece.kept c.loop-piece.invariant
     c.in-Some.piece.now (listed c.next_piece.new.self) c.in-Some.ensures.piece
 
-pub follow_one-requires : goal.follow_one-requires
-follow_one-requires c =
+pub follow-requires : goal.follow-requires
+follow-requires c =
     let tail = tail_of c.args.tail.now in
     let next = c.change-item.result in
     let i = c.loop-change.change-index in
@@ -46,10 +48,10 @@ returns-then-is_err-clause-err c =
     let now = c.loop-change.kept in
     let are = c.loop-change.invariant in
     let split = next-in piece rest i next c.change-item.is c.loop-change-test.true in
-    stops c.args.window tail old c.requires c.follow_one.new.kept (length are.done) next
+    stops c.args.window tail old c.requires c.follow.new.self (length are.done) next
     (next-at c.args.window tail.changes left old now are next (drop (i + 1) piece ++ rest) split)
     (next-within c.args.window tail.changes left old now are next (drop (i + 1) piece ++ rest) split)
-    (λ a. ap (λ (k : Kept). versions_of k a) (at_err c.follow_one.result _ (sym c.is_err.ensures.value ∙ c.if-is_err.true) c.follow_one.ensures.err)
+    (λ a. ap (λ (k : Kept). versions_of k a) (at_err c.follow.result _ (sym c.is_err.ensures.value ∙ c.if-is_err.true) c.follow.ensures.err)
     ∙ next-versions c.args.window tail.changes left old now are next (drop (i + 1) piece ++ rest) split a)
 
 pub loop-change-preserved : goal.loop-change-preserved
@@ -60,9 +62,12 @@ loop-change-preserved c =
     let piece = c.in-Some.piece.now in
     let rest = listed c.next_piece.new.self in
     let split = next-in piece rest i next c.change-item.is c.loop-change-test.true in
-    one-less c.args.window tail.changes (drop i piece ++ rest) c.args.kept.now c.loop-change.kept c.loop-change.invariant next
-    (drop (i + 1) piece ++ rest) split c.follow_one.new.kept
-    (at_ok c.follow_one.result _ (sym c.is_err.ensures.value ∙ c.if-is_err.false) c.follow_one.ensures.ok)
+    let now = c.loop-change.kept in
+    one-less c.args.window tail.changes (drop i piece ++ rest) c.args.kept.now now c.loop-change.invariant next
+    (drop (i + 1) piece ++ rest) split c.follow.new.self
+    (put_one now c.follow.new.self next.address (followed c.args.window next) (changed_by next c.horizon_of-horizon.result (versions_of now next.address))
+    (at_ok c.follow.result _ (sym c.is_err.ensures.value ∙ c.if-is_err.false) c.follow.ensures.ok)
+    (ap (λ h. changed_by next h (versions_of now next.address)) (c.horizon_of-horizon.ensures ∙ ap (horizon_at c.args.window) c.saturating_sub.ensures)))
 
 pub loop-piece-preserved : goal.loop-piece-preserved
 loop-piece-preserved c =
