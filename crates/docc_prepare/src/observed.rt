@@ -13,7 +13,7 @@ use txn_lang::{Seen, Snaps};
 
 /// An observation with its base, the front at which its address was read.
 #[inline(always)]
-fn with_base(snaps: &Snaps, seen: &Seen) -> Result<Based, AllocError>
+pub(crate) fn with_base(snaps: &Snaps, seen: &Seen) -> Result<Based, AllocError>
     ensures { IfOk result (λ based. based ≡ spec.with_base snaps.now seen.now) }
 {
     Ok(Based {
@@ -38,26 +38,6 @@ pub(crate) fn based(
     Ok(all)
 }
 
-/// Those whose addresses are in a shard.
-pub(crate) fn based_in(
-    alloc: Global,
-    snaps: &Snaps,
-    observations: &[Seen],
-    shards: u8,
-    shard: u8,
-) -> Result<BasedList, AllocError>
-    requires { (LEAST_SHARDS ≤ shards) × (shards ≤ MOST_SHARDS) }
-    ensures { IfOk result (λ all. all ≡ spec.in_shard shards shard (spec.based snaps.now observations.now)) }
-{
-    let mut inside = BasedList::new(alloc);
-    for seen in observations {
-        if shard_of(&seen.address, shards) == shard {
-            inside.push(with_base(snaps, seen)?)?;
-        }
-    }
-    Ok(inside)
-}
-
 /// Whether a shard was prepared.
 fn has_front(fronts: &[PreparedFront], shard: u8) -> bool
     ensures { result ≡ spec.has_front fronts.now shard }
@@ -68,16 +48,6 @@ fn has_front(fronts: &[PreparedFront], shard: u8) -> bool
         }
     }
     false
-}
-
-/// The lesser of a shard and one that may have been found.
-fn lesser(shard: u8, found: Option<u8>) -> u8
-    ensures { result ≡ spec.lesser shard found }
-{
-    match found {
-        Some(other) if other < shard => other,
-        _ => shard,
-    }
 }
 
 /// The least shard that holds an observed address and has no front, if there is one.
@@ -96,7 +66,10 @@ pub(crate) fn least_unprepared(
         if has_front(fronts, shard) {
             continue;
         }
-        found = Some(lesser(shard, found));
+        found = match found {
+            Some(other) if other < shard => found,
+            _ => Some(shard),
+        };
     }
     found
 }

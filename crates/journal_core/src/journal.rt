@@ -18,12 +18,12 @@ use crate::appended::Appended;
 use crate::copying::changes_by;
 use crate::deciding::least_past;
 use crate::keep::Keep;
-use crate::lent::LentTail;
+use crate::lent::{LentChanges, LentTail};
 use crate::log::Log;
 use crate::naming::witness_of;
 use crate::ready::Ready;
 use crate::slot::Slot;
-use crate::tails::{lent_in_shard, tail_of_address, tail_of_all, tail_of_shard};
+use crate::tails::{between_in_shard, tail_of_address, tail_of_all, tail_of_shard};
 use abort_witness::{Found, Witness};
 use change_feed::Tail;
 use conflict_table::Steps;
@@ -126,7 +126,8 @@ impl<K: Keep> Journal<K> {
         requires within { to ≤ length self.now.commits }
         ensures { HasAllIn self.now.shards shard from to self.now.commits (tail_of result) }
     {
-        lent_in_shard(&self.log, shard, from, to)
+        let changes = LentChanges::of(between_in_shard(&self.log, shard, from, to));
+        LentTail { from, to, changes }
     }
 
     /// The changes at an address, of commits past one number and up to another.

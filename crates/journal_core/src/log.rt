@@ -185,11 +185,7 @@ fn empty_lists(alloc: Global, shards: u8) -> Result<Vec<Segments>, AllocError>
 }
 
 /// Copies of the changes of commits, by shard.
-fn lists_of(
-    alloc: Global,
-    commits: &[Commit],
-    shards: u8,
-) -> Result<Vec<Segments>, AllocError>
+fn lists_of(alloc: Global, commits: &[Commit], shards: u8) -> Result<Vec<Segments>, AllocError>
     requires { (LEAST_SHARDS ≤ shards) × (shards ≤ MOST_SHARDS) }
     ensures { IfOk result (λ lists. AreByShard shards (spec.changes commits.now) lists.items) }
 {

@@ -6,7 +6,7 @@ ghost use Rattle.change_feed.specs.Feeds.{AreOfTheirKinds};
 ghost use Rattle.change_feed.specs.Lists.{listed};
 ghost use Rattle.abort_witness.specs.Kinds.{IsBasedOfOneKind};
 ghost use Rattle.version_shard.specs.Shards as spec;
-ghost use Rattle.version_shard.specs.Shards.{IsIn, AreKept, horizon_at};
+ghost use Rattle.version_shard.specs.Shards.{IsIn, AreKept};
 ghost use Rattle.version_shard.specs.Standing.{InEach, HasReached, GoesOn, StandsBehind, empty_by};
 ghost use Rattle.version_shard.specs.Validating.{ReadsAt, ReadsFront, Validates, IsWithinSteps};
 ghost use Rattle.version_shard.specs.code.Following.{cut_along, DoesToAll, Follows, StopsAt, Reaches};
@@ -88,7 +88,7 @@ impl Shard {
     pub fn horizon(&self) -> u64
         ensures { result ≡ spec.horizon self.now }
     {
-        horizon_of(self.window, self.front)
+        self.front.saturating_sub(self.window as u64)
     }
 
     /// Follows the journal from the front to where a tail goes. The cost is that of the changes; of the addresses that none of
@@ -197,14 +197,8 @@ impl Shard {
     }
 }
 
-/// The least number at which a shard can be read at a front: the front less the window, or 0.
-fn horizon_of(window: u16, front: u64) -> u64
-    ensures { result ≡ horizon_at window front }
-{
-    front.saturating_sub(window as u64)
-}
-
-/// Follows changes one by one. Where there is no memory for one of them it answers the number of its commit.
+/// Follows changes one by one, each to the horizon of a shard that stands before its commit. Where there is no memory for one of
+/// them it answers the number of its commit.
 fn follow_each(kept: &mut Kept, alloc: Global, tail: &LentTail<'_>, window: u16) -> Result<(), u64>
     requires { AreKept tail.now.from kept.old }
     ensures ok { OnOk result (Follows window tail.now.changes.now kept.old kept.new) }
@@ -213,7 +207,7 @@ fn follow_each(kept: &mut Kept, alloc: Global, tail: &LentTail<'_>, window: u16)
     let mut rest = tail.changes.pieces();
     while let Some(piece) = rest.next_piece() {
         for change in piece {
-            let horizon = horizon_of(window, change.number.saturating_sub(1));
+            let horizon = change.number.saturating_sub(window as u64 + 1);
             if kept.follow(alloc, change, horizon).is_err() {
                 return Err(change.number);
             }

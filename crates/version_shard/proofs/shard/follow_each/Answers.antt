@@ -1,4 +1,4 @@
-use Rattle.std.proofs.Common.{◌+◌, ◌++◌, drop, length, sym, ap, ◌∙◌, subst}
+use Rattle.std.proofs.Common.{◌≡◌, ℕ, ◌+◌, ◌-◌, ◌++◌, arith, drop, length, sym, ap, ◌∙◌, subst}
 use Rattle.std.proofs.Math.ListN.{drop_of_length-le}
 use Rattle.change_feed.specs.Lists.{listed}
 use Rattle.journal_core.specs.Tails.{tail_of}
@@ -8,6 +8,10 @@ use Rattle.version_shard.specs.code.Marks.{changed_by}
 use Rattle.version_shard.proofs.Keeping.{up_to-next, stops, at_err, at_ok, put_one}
 use Rattle.version_shard.proofs.Pieces.{AreLeft, all-left, pieces-left, none-left, next-in, next-at, next-within, next-versions, one-less}
 use Rattle.version_shard.proofs.shard.follow_each.Goals as goal
+
+-- the horizon before a commit
+before : (number window : ℕ) → number - (window + 1) ≡ horizon_at window (number - 1)
+before number window = omega arith
 
 pub loop-piece-init : goal.loop-piece-init
 loop-piece-init c =
@@ -65,9 +69,9 @@ loop-change-preserved c =
     let now = c.loop-change.kept in
     one-less c.args.window tail.changes (drop i piece ++ rest) c.args.kept.now now c.loop-change.invariant next
     (drop (i + 1) piece ++ rest) split c.follow.new.self
-    (put_one now c.follow.new.self next.address (followed c.args.window next) (changed_by next c.horizon_of-horizon.result (versions_of now next.address))
+    (put_one now c.follow.new.self next.address (followed c.args.window next) (changed_by next c.saturating_sub-horizon.result (versions_of now next.address))
     (at_ok c.follow.result _ (sym c.is_err.ensures.value ∙ c.if-is_err.false) c.follow.ensures.ok)
-    (ap (λ h. changed_by next h (versions_of now next.address)) (c.horizon_of-horizon.ensures ∙ ap (horizon_at c.args.window) c.saturating_sub.ensures)))
+    (ap (λ h. changed_by next h (versions_of now next.address)) (c.saturating_sub-horizon.ensures ∙ before next.number c.args.window)))
 
 pub loop-piece-preserved : goal.loop-piece-preserved
 loop-piece-preserved c =
