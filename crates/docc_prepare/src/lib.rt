@@ -11,7 +11,6 @@ mod backend;
 mod laws;
 mod limits;
 mod observed;
-mod order;
 mod stepping;
 mod store_laws;
 mod waiter;

@@ -1,34 +1,25 @@
-//! Observations with the fronts at which their addresses were read.
+//! What a run observed: with the fronts at which the addresses were read, and in which order the shards are prepared.
 
 ghost use Rattle.std.specs.Prelude.{◌≡◌, ◌≤◌, IfOk};
 ghost use Rattle.rdt_types.specs.declared.limits.TheConstants.{LEAST_SHARDS, MOST_SHARDS};
 ghost use Rattle.docc_prepare.specs.Attempts as spec;
 
 use abort_witness::{Based, BasedList};
+use journal_core::PreparedFront;
 use plain_data::copied;
-use rdt_types::{Address, shard_of};
+use rdt_types::shard_of;
 use std::alloc::{AllocError, Global};
 use txn_lang::{Seen, Snaps};
 
-/// The front at which an address was read.
-fn base_at(snaps: &Snaps, address: &Address) -> u64
-    ensures { result ≡ spec.base_at snaps.now address.now }
-{
-    match snaps.get(address) {
-        Some(snap) => snap.base,
-        None => 0,
-    }
-}
-
-/// An observation with the base of its address.
+/// An observation with its base, the front at which its address was read.
 #[inline(always)]
-fn with_base(snaps: &Snaps, seen: &Seen) -> Result<Based, AllocError>
+pub(crate) fn with_base(snaps: &Snaps, seen: &Seen) -> Result<Based, AllocError>
     ensures { IfOk result (λ based. based ≡ spec.with_base snaps.now seen.now) }
 {
     Ok(Based {
         address: copied(&seen.address)?,
         obs: copied(&seen.obs)?,
-        base: base_at(snaps, &seen.address),
+        base: snaps.get(&seen.address).map_or(0, |snap| snap.base),
     })
 }
 
@@ -47,22 +38,38 @@ pub(crate) fn based(
     Ok(all)
 }
 
-/// Those whose addresses are in a shard.
-pub(crate) fn based_in(
-    alloc: Global,
-    snaps: &Snaps,
-    observations: &[Seen],
-    shards: u8,
-    shard: u8,
-) -> Result<BasedList, AllocError>
-    requires { (LEAST_SHARDS ≤ shards) × (shards ≤ MOST_SHARDS) }
-    ensures { IfOk result (λ all. all ≡ spec.in_shard shards shard (spec.based snaps.now observations.now)) }
+/// Whether a shard was prepared.
+fn has_front(fronts: &[PreparedFront], shard: u8) -> bool
+    ensures { result ≡ spec.has_front fronts.now shard }
 {
-    let mut inside = BasedList::new(alloc);
-    for seen in observations {
-        if shard_of(&seen.address, shards) == shard {
-            inside.push(with_base(snaps, seen)?)?;
+    for prepared in fronts {
+        if prepared.shard == shard {
+            return true;
         }
     }
-    Ok(inside)
+    false
+}
+
+/// The least shard that holds an observed address and has no front, if there is one.
+#[tactic(auto, using(crate::proofs::Lowest::nothing_more))]
+pub(crate) fn least_unprepared(
+    shards: u8,
+    fronts: &[PreparedFront],
+    observations: &[Seen],
+) -> Option<u8>
+    requires { (LEAST_SHARDS ≤ shards) × (shards ≤ MOST_SHARDS) }
+    ensures { result ≡ spec.least_unprepared shards fronts.now observations.now }
+{
+    let mut found = None;
+    for seen in observations {
+        let shard = shard_of(&seen.address, shards);
+        if has_front(fronts, shard) {
+            continue;
+        }
+        found = match found {
+            Some(other) if other < shard => found,
+            _ => Some(shard),
+        };
+    }
+    found
 }

@@ -8,11 +8,10 @@ ghost use Rattle.docc_prepare.specs.Attempts.{PausesAt, KeepsPauses, Prepares};
 
 use crate::attempt::{Attempt, Next};
 use crate::observed;
-use crate::order::least_unprepared;
 use abort_witness::BasedList;
 use journal_core::{FrontList, PreparedFront, Ready};
 use plain_data::OrderedMap;
-use rdt_types::Address;
+use rdt_types::{Address, shard_of};
 use std::alloc::{AllocError, Global};
 use txn_eval::{Pause, Step, go_on};
 use txn_lang::{Checked, Run, Snap};
@@ -41,7 +40,7 @@ impl Attempt {
         ensures { result ≡ spec.next_of self.now.shards self.now.fronts (done run) }
     {
         let observations = run.observations.as_slice();
-        match least_unprepared(self.shards, self.fronts.as_slice(), observations) {
+        match observed::least_unprepared(self.shards, self.fronts.as_slice(), observations) {
             Some(shard) => Next::Prepare(shard, run),
             None => Next::Append(run),
         }
@@ -104,7 +103,13 @@ impl Attempt {
         ensures { IfOk result (λ all. all ≡ spec.in_shard self.now.shards shard (spec.based self.now.snaps run.now.observations)) }
     {
         let observations = run.observations.as_slice();
-        observed::based_in(alloc, &self.snaps, observations, self.shards, shard)
+        let mut inside = BasedList::new(alloc);
+        for seen in observations {
+            if shard_of(&seen.address, self.shards) == shard {
+                inside.push(observed::with_base(&self.snaps, seen)?)?;
+            }
+        }
+        Ok(inside)
     }
 
     /// What is handed to the journal: the run with all that it is validated by.

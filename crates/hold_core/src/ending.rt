@@ -1,12 +1,9 @@
 //! What ends a hold.
 
-ghost use Rattle.std.specs.Prelude.{◌≡◌, ◌+◌, ◌<◌, ◌≤◌, ◌++◌, nat_lt, filter, length};
-ghost use Rattle.std.specs.Vec.{vec_capacity};
+ghost use Rattle.std.specs.Prelude.{◌≡◌, ◌+◌, nat_lt};
 ghost use Rattle.journal_core.specs.declared.limits.TheConstants.{HOLD_LASTS};
 ghost use Rattle.journal_core.specs.Holds as spec;
 
-use crate::indexed::IndexedSeen;
-use crate::telling::is_hold;
 use crate::watched::Watched;
 use conflict_table::Steps;
 use journal_core::HOLD_LASTS;
@@ -33,36 +30,10 @@ fn is_young(number: u64, hold: &Watched) -> bool
 }
 
 /// Whether a hold is live still behind a further commit.
-fn outlasts(commit: &Commit, hold: &Watched) -> bool
+pub(crate) fn outlasts(commit: &Commit, hold: &Watched) -> bool
     ensures { result ≡ spec.outlasts commit.now hold.now }
 {
     is_young(commit.number, hold)
         && hold.client() != commit.client
         && !disturbed::<Brand>(Blank::new(1), commit, hold)
-}
-
-/// Takes out the holds that a commit ends.
-pub(crate) fn end_by(holds: &mut Vec<Watched>, commit: &Commit)
-    ensures rest { holds.new.items ≡ filter (spec.outlasts commit.now) holds.old.items }
-    ensures capacity { vec_capacity holds.new ≡ vec_capacity holds.old }
-{
-    holds.retain(|hold| outlasts(commit, hold));
-}
-
-/// Adds the hold that a commit is, if it is one. There is memory for it.
-pub(crate) fn begin_by(
-    holds: &mut Vec<Watched>,
-    from: u64,
-    commit: &Commit,
-    observations: IndexedSeen,
-)
-    requires room { length holds.old.items < vec_capacity holds.old }
-    ensures more { holds.new.items ≡ holds.old.items ++ spec.new_hold from commit.now observations }
-    ensures capacity { vec_capacity holds.old ≤ vec_capacity holds.new }
-{
-    if is_hold(from, commit) {
-        let hold = Watched::new(commit.client, commit.number, observations);
-        let pushed = holds.push(hold);
-        prove!(pushed.is_ok());
-    }
 }

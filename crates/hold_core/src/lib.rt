@@ -6,11 +6,8 @@
 //! it may have to test.
 #![tactic(auto)]
 
-mod barring;
 mod book;
-mod copying;
 mod ending;
-mod entering;
 mod indexed;
 mod laws;
 mod marks;
@@ -19,8 +16,7 @@ mod placing;
 mod telling;
 mod watched;
 
-pub use book::HoldBook;
-pub use copying::{copy_seen, seen_to_hold};
-pub use entering::enter;
+pub use book::{HoldBook, enter};
 pub use indexed::IndexedSeen;
 pub use laws::{bars_are_least, covered_is_clear, holds_end_only_so, live_holds_are_listed};
+pub use telling::{copy_seen, seen_to_hold};

@@ -1,9 +1,10 @@
 -- Changes kept by shard.
 use Rattle.std.proofs.Common.{◌≡◌, ℕ, ◌+◌, ◌≤◌, ◌==◌, Bool, true, false, nat_lt, nat_le, List, [], ◌∷◌, ◌++◌, filter, length, take, drop}
-use Rattle.std.proofs.Common.{refl, sym, ap, ◌∙◌, arith, cond, Some}
+use Rattle.std.proofs.Common.{max, refl, sym, ap, ◌∙◌, subst, arith, cond, Some}
 use Rattle.std.specs.BTreeMap.{is_at}
 use Rattle.std.proofs.Common.{zero, suc}
 use Rattle.std.proofs.Math.Bool.{and-false}
+use Rattle.std.proofs.Math.Nat.{le-max_left}
 use Rattle.std.proofs.lemmas.Bool.{eq-eqb, le-leb, lt-leb, le-ltb, lt-ltb}
 use Rattle.std.proofs.lemmas.List.Elements.{filter-append}
 use Rattle.rdt_types.specs.declared.address.Address.{Address}
@@ -19,7 +20,8 @@ use Rattle.abort_witness.specs.Pairs.{meets, clashes, first_clash}
 use Rattle.txn_lang.specs.declared.commit.Commit.{Commit}
 use Rattle.txn_lang.specs.States.{Journal}
 use Rattle.journal_core.specs.Changes.{changes, changes_of, changes_by, past, up_to, between, of_shard, of_address}
-use Rattle.journal_core.specs.Pairs.{AreNumberedFrom}
+use Rattle.journal_core.specs.declared.ready.PreparedFront.{PreparedFront}
+use Rattle.journal_core.specs.Pairs.{AreNumberedFrom, front_at, past_front}
 use Rattle.journal_core.specs.code.Logs.{Keeps}
 use Rattle.journal_core.specs.code.Parts.{MeetsAlike}
 use Rattle.journal_core.proofs.Passing.{moved, fails-middle, past-same}
@@ -79,6 +81,16 @@ past-alike based from shards here all within same =
       first = later.first ∙ ap (first_clash (moved based from)) same ∙ first_clash-in_shard (moved based from) shards all;
       met = later.met ∙ ap (filter (meets (moved based from))) same ∙ meets-in_shard (moved based from) shards all;
     }
+
+-- what is ahead of an observation, in its shard past its base and its front, it meets as past its front of all
+pub ahead-alike : (based : Based) (fronts : List PreparedFront) (shards shard from : ℕ) (here ahead all : List Change)
+    → shard ≡ shard_of based.address shards → from ≡ max based.base (front_at fronts shard) → here ≡ of_shard shards shard all → ahead ≡ past from here
+    → MeetsAlike based ahead (past_front shards fronts based) all
+ahead-alike based fronts shards shard from here ahead all shard_is from_is same past_is =
+    let from_front : from ≡ max based.base (front_at fronts (shard_of based.address shards)) = from_is ∙ ap (λ k. max based.base (front_at fronts k)) shard_is in
+    let in_shard : here ≡ of_shard shards (shard_of based.address shards) all = same ∙ ap (λ k. of_shard shards k all) shard_is in
+    let within : based.base ≤ from = subst (λ n. based.base ≤ n) (sym from_is) (le-max_left based.base _) in
+    rw past_is (subst (λ n. MeetsAlike based (past from here) (moved based n) all) from_front (past-alike based from shards here all within in_shard))
 
 -- and all that is at an address
 pub of_address-in_shard : (address : Address) (shards : ℕ) (all : List Change)

@@ -1,17 +1,15 @@
 //! The least clash past what was prepared.
 
 ghost use Rattle.std.specs.Prelude.{◌≡◌, ◌+◌, ◌≤◌, max};
-ghost use Rattle.change_feed.specs.Lists.{listed};
 ghost use Rattle.abort_witness.specs.Pairs as pairs;
 ghost use Rattle.abort_witness.specs.Pairs.{first_clash};
 ghost use Rattle.journal_core.specs.Pairs as spec;
-ghost use Rattle.journal_core.specs.code.Logs.{MeetsAhead, all_past, changes_in, met_past, most_past, past_in};
+ghost use Rattle.journal_core.specs.code.Logs.{all_past, changes_in, met_past, most_past, past_in};
 
 use crate::log::Log;
 use crate::ready::PreparedFront;
 use crate::walk::past;
 use abort_witness::{Based, Found, first_clash_in, lesser};
-use change_feed::Changes;
 use conflict_table::Steps;
 use rdt_types::shard_of;
 use std::sync::ledger::Ledger;
@@ -36,20 +34,8 @@ fn counts_from(based: &Based, shard: u8, fronts: &[PreparedFront]) -> u64
     based.base.max(front)
 }
 
-/// The changes that an observation may meet past what was prepared. It looks only into its shard, and nowhere where no commit is
-/// past the base.
-fn ahead<'a>(based: &Based, log: &'a Log, fronts: &[PreparedFront]) -> Changes<'a>
-    ensures { MeetsAhead log.now fronts.now based.now (listed result) }
-{
-    if log.commits().len() as u64 <= based.base {
-        return Changes::none();
-    }
-    let shard = shard_of(&based.address, log.shards());
-    let from = counts_from(based, shard, fronts);
-    past(log.in_shard(shard), from)
-}
-
-/// The number of the first change past what was prepared that clashes with an observation.
+/// The number of the first change past what was prepared that clashes with an observation. It looks only into its shard, and
+/// nowhere where no commit is past the base.
 fn clash_past<L: Ledger>(
     based: &Based,
     log: &Log,
@@ -59,7 +45,12 @@ fn clash_past<L: Ledger>(
     ensures first { result ≡ first_clash (past_in log.now fronts.now based.now) (changes_in log.now) }
     ensures steps { steps.new ≤ steps.old + met_past log.now fronts.now based.now }
 {
-    first_clash_in(based, ahead(based, log, fronts), steps)
+    if log.commits().len() as u64 <= based.base {
+        return None;
+    }
+    let shard = shard_of(&based.address, log.shards());
+    let from = counts_from(based, shard, fronts);
+    first_clash_in(based, past(log.in_shard(shard), from), steps)
 }
 
 /// The least pair past what was prepared.

@@ -16,13 +16,14 @@ ghost use Rattle.journal_core.specs.Journals.{CanAppend, Decides, IsSlot, IfDisk
 
 use crate::appended::Appended;
 use crate::copying::changes_by;
+use crate::deciding::least_past;
 use crate::keep::Keep;
-use crate::lent::LentTail;
+use crate::lent::{LentChanges, LentTail};
 use crate::log::Log;
 use crate::naming::witness_of;
 use crate::ready::Ready;
 use crate::slot::Slot;
-use crate::tails::{lent_in_shard, tail_of_address, tail_of_all, tail_of_shard};
+use crate::tails::{between_in_shard, tail_of_address, tail_of_all, tail_of_shard};
 use abort_witness::{Found, Witness};
 use change_feed::Tail;
 use conflict_table::Steps;
@@ -125,7 +126,8 @@ impl<K: Keep> Journal<K> {
         requires within { to ≤ length self.now.commits }
         ensures { HasAllIn self.now.shards shard from to self.now.commits (tail_of result) }
     {
-        lent_in_shard(&self.log, shard, from, to)
+        let changes = LentChanges::of(between_in_shard(&self.log, shard, from, to));
+        LentTail { from, to, changes }
     }
 
     /// The changes at an address, of commits past one number and up to another.
@@ -188,7 +190,10 @@ impl<K: Keep> Journal<K> {
         ensures steps { steps.new ≤ steps.old + journals.steps_past ready.now self.now }
     {
         let (based, fronts) = (ready.based.as_slice(), ready.fronts.as_slice());
-        self.log.least_past(based, fronts, steps)
+        if self.log.commits().is_empty() {
+            return None;
+        }
+        least_past(based, &self.log, fronts, steps)
     }
 
     /// What is left of an append where nothing clashes: adds the slot's commit, or says why not, at the limit or by a fault
@@ -202,27 +207,6 @@ impl<K: Keep> Journal<K> {
         if self.length() >= limit as u64 {
             return Appended::Full(limit);
         }
-        self.add(slot)
-    }
-
-    /// The witness of the clash that an append answered, as long as nothing was added since: the observation with the
-    /// base at which it was made, and the part of the commit that clashes with it. It costs the deltas of that one
-    /// commit at most.
-    pub fn witness(&self, ready: &Ready, found: &Found) -> Result<Witness, AllocError>
-        requires found { journals.found_past ready.now self.now ≡ Some found.now }
-        requires observed { AreBasedOfOneKind ready.now.based }
-        ensures names { IfOk result (IsWitnessOf ready.now.based self.now.commits found.now) }
-        ensures kinds { IfOk result IsOfOneKind }
-    {
-        witness_of(ready.based.as_slice(), self.log.commits(), found)
-    }
-
-    /// Adds the slot's commit unless the keeper fails.
-    fn add(&mut self, slot: Slot) -> Appended
-        requires { journals.CanAdd K.stands_for slot self.old }
-        ensures adds { journals.Adds slot.commit self.old result self.new }
-        ensures may_fail { IfDiskFault result (K.may_fail ≡ true) }
-    {
         let before = self.keeper.keep_faults();
         if self.keeper.keep(&slot.bytes).is_err() {
             return Appended::DiskFault(before, self.keeper.keep_faults());
@@ -235,6 +219,18 @@ impl<K: Keep> Journal<K> {
         let number = commit.number;
         self.log.add(commit, changes);
         Appended::Number(number)
+    }
+
+    /// The witness of the clash that an append answered, as long as nothing was added since: the observation with the
+    /// base at which it was made, and the part of the commit that clashes with it. It costs the deltas of that one
+    /// commit at most.
+    pub fn witness(&self, ready: &Ready, found: &Found) -> Result<Witness, AllocError>
+        requires found { journals.found_past ready.now self.now ≡ Some found.now }
+        requires observed { AreBasedOfOneKind ready.now.based }
+        ensures names { IfOk result (IsWitnessOf ready.now.based self.now.commits found.now) }
+        ensures kinds { IfOk result IsOfOneKind }
+    {
+        witness_of(ready.based.as_slice(), self.log.commits(), found)
     }
 }
 

@@ -9,7 +9,6 @@
 #![tactic(auto)]
 
 mod appended;
-mod by_shard;
 mod copying;
 mod deciding;
 mod hold;
@@ -21,8 +20,6 @@ mod limits;
 mod log;
 mod naming;
 mod ready;
-mod roomy;
-mod sealed;
 mod segments;
 mod slot;
 mod tails;

@@ -1,36 +1,30 @@
-//! The commits, and their changes beside them.
+//! The commits, and their changes beside them, by shard: a list for each, in the journal's order.
 
-ghost use Rattle.std.specs.Prelude.{◌≡◌, ◌+◌, ◌<◌, ◌≤◌, [], ◌∷◌, ◌++◌, length, slice_get, OnOk, OnErr, IfOk};
-ghost use Rattle.std.specs.Option.{option_copied};
+ghost use Rattle.std.specs.Prelude.{◌≡◌, ◌+◌, ◌<◌, ◌≤◌, [], ◌∷◌, ◌++◌, length, OnOk, OnErr, IfOk};
 ghost use Rattle.rdt_types.specs.declared.limits.TheConstants.{LEAST_SHARDS, MOST_SHARDS};
 ghost use Rattle.change_feed.specs.Lists.{listed};
-ghost use Rattle.abort_witness.specs.Pairs as pairs;
 ghost use Rattle.journal_core.specs.Changes as spec;
-ghost use Rattle.journal_core.specs.Pairs.{least_pair, AreNumbered};
+ghost use Rattle.journal_core.specs.Pairs.{AreNumbered};
 ghost use Rattle.journal_core.specs.code.Rising.{Rises};
 ghost use Rattle.journal_core.specs.Kinds.{AreOfTheirKinds, HasKinds};
+ghost use Rattle.journal_core.specs.code.ByShard.{room_at, HasRoom, AreByShard, HasGrown, HasPut, HasAdded};
 ghost use Rattle.journal_core.specs.code.Logs as logs;
 ghost use Rattle.journal_core.specs.code.Segments.{IsWhole};
 
-use crate::by_shard::{add_each, in_shard, lists_of, reserve_each};
-use crate::deciding::least_past;
-use crate::ready::PreparedFront;
-use crate::roomy::Roomy;
+use crate::copying::changes_by;
 use crate::segments::Segments;
-use abort_witness::{Based, Found};
 use change_feed::{Change, Changes};
-use conflict_table::Steps;
 use plain_data::Sequence;
+use rdt_types::shard_of;
 use std::alloc::{AllocError, Global};
 use std::marker::Model;
-use std::sync::ledger::Ledger;
 use txn_lang::{Commit, CommitList};
 
 /// The commits of a journal. Beside them stand their changes, a list for each shard in order, in which a number is found by
 /// halving.
 #[derive(Debug, Drop)]
 pub(crate) struct Log {
-    commits: Roomy<Commit>,
+    commits: Vec<Commit>,
     lists: Vec<Segments>,
     shards: u8,
     room: usize,
@@ -44,9 +38,9 @@ impl Model for Log {
 
     ghost coded = { logs.log_code commit.the_row.coded };
 
-    ghost view = { λ l. record { commits = l.commits.0; shards = l.shards; room = l.room } };
+    ghost view = { λ l. record { commits = l.commits.items; shards = l.shards; room = l.room } };
 
-    ghost invariant = { λ l. logs.Keeps l.commits.0 l.shards l.lists.items l.commits.1 l.room };
+    ghost invariant = { λ l. logs.Keeps l.commits.items l.shards l.lists.items (logs.room_for_more l.commits) l.room };
 }
 
 impl Log {
@@ -60,28 +54,11 @@ impl Log {
     {
         let lists = lists_of(alloc, commits.as_slice(), shards)?;
         Ok(Log {
-            commits: Roomy::from_vec(commits.into_vec()),
+            commits: commits.into_vec(),
             lists,
             shards,
             room: 0,
         })
-    }
-
-    /// The least pair of these observations, past what was prepared.
-    pub(crate) fn least_past<L: Ledger>(
-        &self,
-        based: &[Based],
-        fronts: &[PreparedFront],
-        steps: &mut Steps<L>,
-    ) -> Option<Found>
-        requires places { pairs.HavePlaces based.now }
-        ensures least { result ≡ least_pair (logs.all_past self.now fronts.now based.now) self.now.commits }
-        ensures steps { steps.new ≤ steps.old + logs.most_past self.now fronts.now based.now }
-    {
-        if self.commits().is_empty() {
-            return None;
-        }
-        least_past(based, self, fronts, steps)
     }
 
     /// The commits.
@@ -108,7 +85,14 @@ impl Log {
         ensures whole { IsWhole result }
         ensures numbered { AreNumbered self.now.commits }
     {
-        in_shard(self.lists.as_slice(), shard)
+        match self.lists.get(shard as usize) {
+            Some(list) => list.lend(),
+            None => Changes {
+                skipped: 0,
+                sealed: &[],
+                last: &[],
+            },
+        }
     }
 
     /// The commits as a list. It is never refused for want of memory.
@@ -116,7 +100,7 @@ impl Log {
         ensures { result ≡ self.commits }
     {
         let Log { commits, .. } = self;
-        Sequence::from_vec(commits.into_vec())
+        Sequence::from_vec(commits)
     }
 
     /// Takes memory for one commit more and so many changes of it, fewer than the number.
@@ -142,7 +126,74 @@ impl Log {
         ensures { self.new ≡ record self.old { commits = self.old.commits ++ commit ∷ []; room = 0 } }
     {
         self.room = 0;
-        self.commits.push(commit);
+        self.commits.push_reserved(commit);
         add_each(&mut self.lists, self.shards, changes.into_vec());
     }
+}
+
+/// Takes memory for some more changes in the list at a place.
+fn reserve_at(lists: &mut Vec<Segments>, place: usize, room: usize) -> Result<(), AllocError>
+    requires { place < length lists.old.items }
+    ensures grown { HasGrown lists.old.items lists.new.items }
+    ensures ok { OnOk result (room ≤ room_at lists.new.items place) }
+{
+    lists[place].reserve(room)
+}
+
+/// Takes memory for some more changes in each list.
+fn reserve_each(lists: &mut Vec<Segments>, room: usize) -> Result<(), AllocError>
+    ensures grown { HasGrown lists.old.items lists.new.items }
+    ensures ok { OnOk result (HasRoom room lists.new.items) }
+{
+    for place in 0..lists.len() {
+        reserve_at(lists, place, room)?;
+    }
+    Ok(())
+}
+
+/// Adds a change to the list at a place, for which there is memory.
+fn push_at(lists: &mut Vec<Segments>, place: usize, change: Change)
+    requires within { place < length lists.old.items }
+    requires room { 0 < room_at lists.old.items place }
+    ensures { HasPut place change lists.old.items lists.new.items }
+{
+    lists[place].push(change);
+}
+
+/// Adds changes, each to the list of its shard, for which there is memory.
+fn add_each(lists: &mut Vec<Segments>, shards: u8, changes: Vec<Change>)
+    requires shards { (LEAST_SHARDS ≤ shards) × (shards ≤ MOST_SHARDS) }
+    requires as_many { length lists.old.items ≡ shards }
+    requires room { HasRoom (length changes.items) lists.old.items }
+    ensures { HasAdded shards changes.items lists.old.items lists.new.items }
+{
+    for change in changes {
+        let shard = shard_of(&change.address, shards);
+        push_at(lists, shard as usize, change);
+    }
+}
+
+/// A list without changes for each shard.
+fn empty_lists(alloc: Global, shards: u8) -> Result<Vec<Segments>, AllocError>
+    ensures { IfOk result (λ lists. AreByShard shards [] lists.items) }
+{
+    let mut lists = Vec::new(alloc);
+    for _ in 0..shards {
+        lists.push(Segments::new(alloc))?;
+    }
+    Ok(lists)
+}
+
+/// Copies of the changes of commits, by shard.
+fn lists_of(alloc: Global, commits: &[Commit], shards: u8) -> Result<Vec<Segments>, AllocError>
+    requires { (LEAST_SHARDS ≤ shards) × (shards ≤ MOST_SHARDS) }
+    ensures { IfOk result (λ lists. AreByShard shards (spec.changes commits.now) lists.items) }
+{
+    let mut lists = empty_lists(alloc, shards)?;
+    for commit in commits {
+        let changes = changes_by(alloc, commit.number, commit.deltas.as_slice())?;
+        reserve_each(&mut lists, changes.len())?;
+        add_each(&mut lists, shards, changes.into_vec());
+    }
+    Ok(lists)
 }

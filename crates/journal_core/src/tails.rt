@@ -5,10 +5,9 @@ ghost use Rattle.change_feed.specs.Lists.{listed};
 ghost use Rattle.change_feed.specs.Tails.{IsTail};
 ghost use Rattle.journal_core.specs.Changes as spec;
 ghost use Rattle.journal_core.specs.Pairs.{AreNumbered};
-ghost use Rattle.journal_core.specs.Tails.{HasAll, HasAllIn, HasAllAt, tail_of};
+ghost use Rattle.journal_core.specs.Tails.{HasAll, HasAllIn, HasAllAt};
 
 use crate::copying::{all_changes, copies_of_address};
-use crate::lent::{LentChanges, LentTail};
 use crate::log::Log;
 use crate::walk::between;
 use change_feed::{ChangeList, Changes, Tail};
@@ -48,7 +47,7 @@ fn changes_between(alloc: Global, log: &Log, from: u64, to: u64) -> Result<Chang
 
 /// The changes in a shard between two numbers.
 #[inline(always)]
-fn between_in_shard(log: &Log, shard: u8, from: u64, to: u64) -> Changes<'_>
+pub(crate) fn between_in_shard(log: &Log, shard: u8, from: u64, to: u64) -> Changes<'_>
     ensures numbered { AreNumbered log.now.commits }
     ensures changes { listed result ≡ spec.between_in log.now.shards shard from to log.now.commits }
 {
@@ -80,15 +79,6 @@ pub(crate) fn tail_of_all(alloc: Global, log: &Log, from: u64, to: u64) -> Resul
     Ok(as_tail(from, to, changes))
 }
 
-/// The tail of the changes in a shard, lent.
-pub(crate) fn lent_in_shard(log: &Log, shard: u8, from: u64, to: u64) -> LentTail<'_>
-    requires { from ≤ to }
-    ensures { HasAllIn log.now.shards shard from to log.now.commits (tail_of result) }
-{
-    let changes = LentChanges::of(between_in_shard(log, shard, from, to));
-    LentTail { from, to, changes }
-}
-
 /// The tail of the changes in a shard, which shares segments.
 pub(crate) fn tail_of_shard(
     alloc: Global,
@@ -100,9 +90,7 @@ pub(crate) fn tail_of_shard(
     requires { from ≤ to }
     ensures { IfOk result (HasAllIn log.now.shards shard from to log.now.commits) }
 {
-    let lent = lent_in_shard(log, shard, from, to);
-    let pieces = lent.changes.pieces();
-    let changes = pieces.share(alloc)?;
+    let changes = between_in_shard(log, shard, from, to).share(alloc)?;
     Ok(as_tail(from, to, changes))
 }
 

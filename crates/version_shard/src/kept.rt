@@ -7,9 +7,9 @@ ghost use Rattle.std.specs.BTreeMap.{is_at};
 ghost use Rattle.rdt_types.specs.Addresses.{address_cmp};
 ghost use Rattle.version_shard.specs.Shards.{versions_of};
 ghost use Rattle.version_shard.specs.Versions as spec;
+ghost use Rattle.version_shard.specs.code.Marks as marks;
 ghost use Rattle.version_shard.specs.code.Marks.{IsPut, HasFollowed, first_own};
 
-use crate::mark::mark_of;
 use crate::versions::Versions;
 use change_feed::Change;
 use plain_data::copied;
@@ -163,4 +163,22 @@ fn first_of(alloc: Global, change: &Change, horizon: u64) -> Result<Own, AllocEr
         address: copied(&change.address)?,
         versions,
     })
+}
+
+/// One byte more, in 64 bits.
+fn with_byte(mark: u64, byte: u8) -> u64
+    ensures { result ≡ marks.with_byte mark byte }
+{
+    mark.wrapping_mul(31).wrapping_add(u64::from(byte))
+}
+
+/// A number made of the bytes of an address' key: few addresses have the same.
+fn mark_of(address: &Address) -> u64
+    ensures { result ≡ marks.mark_of address.now }
+{
+    address
+        .key
+        .as_slice()
+        .iter()
+        .fold(0, |mark, byte| with_byte(mark, *byte))
 }

@@ -8,10 +8,8 @@
 
 mod at_error;
 mod chain;
-mod following;
 mod kept;
 mod laws;
-mod mark;
 mod prepared;
 mod shard;
 mod validating;

@@ -1,22 +1,23 @@
-//! A shard: the values of its addresses within a window of the journal.
+//! A shard: the values of its addresses within a window of the journal, and how they follow a tail of it.
 
-ghost use Rattle.std.specs.Prelude.{◌≡◌, ◌<◌, ◌≤◌, OnOk, IfOk};
+ghost use Rattle.std.specs.Prelude.{◌≡◌, ◌<◌, ◌≤◌, ◌-◌, OnOk, OnErr, IfOk, IfErr};
 ghost use Rattle.std.specs.List.{AllByRecursion};
 ghost use Rattle.change_feed.specs.Feeds.{AreOfTheirKinds};
+ghost use Rattle.change_feed.specs.Lists.{listed};
 ghost use Rattle.abort_witness.specs.Kinds.{IsBasedOfOneKind};
 ghost use Rattle.version_shard.specs.Shards as spec;
-ghost use Rattle.version_shard.specs.Shards.{IsIn};
+ghost use Rattle.version_shard.specs.Shards.{IsIn, AreKept};
 ghost use Rattle.version_shard.specs.Standing.{InEach, HasReached, GoesOn, StandsBehind, empty_by};
 ghost use Rattle.version_shard.specs.Validating.{ReadsAt, ReadsFront, Validates, IsWithinSteps};
+ghost use Rattle.version_shard.specs.code.Following.{cut_along, DoesToAll, Follows, StopsAt, Reaches};
 ghost use Rattle.journal_core.specs.Tails.{tail_of};
 
 use crate::at_error::AtError;
-use crate::following::{horizon_of, reach};
 use crate::kept::Kept;
 use crate::prepared::{Prepared, Refusal};
 use crate::validating::{late_base, least_hit, witness_of};
 use abort_witness::Based;
-use change_feed::Tail;
+use change_feed::{Change, Changes, Tail};
 use conflict_table::Steps;
 use journal_core::{LentChanges, LentTail};
 use rdt_types::{Address, Settings, Value, default_value};
@@ -87,7 +88,7 @@ impl Shard {
     pub fn horizon(&self) -> u64
         ensures { result ≡ spec.horizon self.now }
     {
-        horizon_of(self.window, self.front)
+        self.front.saturating_sub(self.window as u64)
     }
 
     /// Follows the journal from the front to where a tail goes. The cost is that of the changes; of the addresses that none of
@@ -192,6 +193,68 @@ impl Shard {
                 shard: self.number,
                 front: self.front,
             }),
+        }
+    }
+}
+
+/// Follows changes one by one, each to the horizon of a shard that stands before its commit. Where there is no memory for one of
+/// them it answers the number of its commit.
+fn follow_each(kept: &mut Kept, alloc: Global, tail: &LentTail<'_>, window: u16) -> Result<(), u64>
+    requires { AreKept tail.now.from kept.old }
+    ensures ok { OnOk result (Follows window tail.now.changes.now kept.old kept.new) }
+    ensures err { IfErr result (λ number. StopsAt window (tail_of tail.now) number kept.old kept.new) }
+{
+    let mut rest = tail.changes.pieces();
+    while let Some(piece) = rest.next_piece() {
+        for change in piece {
+            let horizon = change.number.saturating_sub(window as u64 + 1);
+            if kept.follow(alloc, change, horizon).is_err() {
+                return Err(change.number);
+            }
+        }
+    }
+    Ok(())
+}
+
+/// Lets go of the versions past a number at the addresses of the changes of a piece.
+fn cut_piece(kept: &mut Kept, piece: &[Change], number: u64)
+    ensures { DoesToAll (λ a. cut_along number a piece.now) kept.old kept.new }
+{
+    for change in piece {
+        kept.cut(&change.address, number);
+    }
+}
+
+/// Lets go of the versions past a number at the addresses of some changes.
+fn cut_each(kept: &mut Kept, changes: &Changes<'_>, number: u64)
+    ensures { DoesToAll (λ a. cut_along number a (listed changes.now)) kept.old kept.new }
+{
+    let mut rest = *changes;
+    while let Some(piece) = rest.next_piece() {
+        cut_piece(kept, piece, number);
+    }
+}
+
+/// Follows a tail. For want of memory it goes back to before the commit for which there was none, and answers the front that
+/// was reached.
+fn reach(
+    kept: &mut Kept,
+    alloc: Global,
+    tail: &LentTail<'_>,
+    window: u16,
+) -> Result<(), u64>
+    requires { AreKept tail.now.from kept.old }
+    ensures ok { OnOk result (Reaches window tail.now.changes.now tail.now.to kept.old kept.new) }
+    ensures within { IfErr result (λ front. (tail.now.from ≤ front) × (front ≤ tail.now.to)) }
+    ensures err { IfErr result (λ front. Reaches window tail.now.changes.now front kept.old kept.new) }
+{
+    match follow_each(kept, alloc, tail, window) {
+        Ok(()) => Ok(()),
+        Err(number) => {
+            let front = number - 1;
+            let pieces = tail.changes.pieces();
+            cut_each(kept, &pieces, front);
+            Err(front)
         }
     }
 }

@@ -1,7 +1,9 @@
--- The commits and what is kept beside them, so that no call goes through the journal. The clauses of `Log` in src/log.rt tie
--- it to the rules: that of `in_shard` to `of_shard` of specs/Changes, and `least` of `least_past`, by `least-is-first` of
+-- The commits and what is kept beside them, so that no call goes through the journal. The clause of `in_shard` of `Log` in
+-- src/log.rt ties it to `of_shard` of specs/Changes; that of `least_past` in src/deciding.rt, by `least-is-first` of
 -- proofs/Ordering, to `least_pair` of specs/Pairs. `keeps-more` of proofs/ByShard says that it stays so with one commit more.
-use Rattle.std.specs.Prelude.{ℕ, ◌≤◌, List, refl}
+use Rattle.std.specs.Prelude.{ℕ, ◌-◌, ◌≤◌, List, length, refl}
+use Rattle.std.specs.Global.{Vec}
+use Rattle.std.specs.Vec.{vec_capacity}
 use Rattle.std.specs.Coded.{Coded, code_by, coded×, coded_list, coded_ℕ}
 use Rattle.rdt_types.specs.declared.limits.TheConstants.{LEAST_SHARDS, MOST_SHARDS}
 use Rattle.change_feed.specs.declared.change.Change.{Change}
@@ -14,7 +16,6 @@ use Rattle.journal_core.specs.Changes.{changes}
 use Rattle.journal_core.specs.Kinds.{HasKinds}
 use Rattle.journal_core.specs.Pairs.{AreNumbered, most_steps, past_front, past_fronts}
 use Rattle.journal_core.specs.code.ByShard.{AreByShard, HasRoom}
-use Rattle.journal_core.specs.code.Parts.{MeetsAlike}
 
 -- the commits, by how many shards their changes are kept, and for how many changes of a commit there is memory
 pub record Log : Type 0 where
@@ -27,6 +28,10 @@ abbrev pub log_code : Coded Commit → Coded Log
 log_code commit =
     code_by (Journal × (ℕ × ℕ)) (coded× (coded_list commit) (coded× coded_ℕ coded_ℕ))
     (λ l. (l.commits, (l.shards, l.room))) (λ p. record { commits = p.0; shards = p.1.0; room = p.1.1 }) (λ _. refl)
+
+-- for how many more commits there is memory
+abbrev pub room_for_more : Vec Commit → ℕ
+room_for_more commits = vec_capacity commits - length commits.items
 
 -- The commits have their places as numbers, and deltas of the kinds of their addresses. The lists beside them have their
 -- changes by shard, and there is memory for one commit and, in each list, as many changes as are named.
@@ -51,10 +56,6 @@ past_in log fronts based = past_front log.shards fronts based
 -- the same of each
 abbrev pub all_past : Log → List PreparedFront → List Based → List Based
 all_past log fronts based = past_fronts log.shards fronts based
-
--- it meets the same of some changes as past its front of all
-abbrev pub MeetsAhead : Log → List PreparedFront → Based → List Change → Type 0
-MeetsAhead log fronts based some = MeetsAlike based some (past_in log fronts based) (changes_in log)
 
 -- how many changes it meets past its front
 abbrev pub met_past : Log → List PreparedFront → Based → ℕ

@@ -6,5 +6,6 @@ pub invariant_of-self : goal.invariant_of-self
 invariant_of-self c =
     let log = c.self.inside in
     let number = c.requires.number ∙ ap (λ l. length l.commits + 1) (sym c.self.view_is) in
-    keeps-more log.commits.0 log.shards log.lists.items c.args.commit _ _ log.commits.1 _ log.room c.self.invariant number c.requires.kinds c.push.ensures.items
+    keeps-more log.commits.items log.shards log.lists.items c.args.commit _ _ _ _ log.room c.self.invariant number c.requires.kinds
+    c.push_reserved.ensures.items
     (rw (sym (c.into_vec.ensures ∙ c.requires.changes)) c.add_each.ensures)
