@@ -1,6 +1,6 @@
 -- What readers and writers of std tell. They may begin to tell what they didn't before, and a source or a sink may not.
 use Rattle.std.specs.Prelude.{◌≡◌, ℕ, List, [], ◌∷◌, Option, Some, None, is_some, if◌then◌else◌, refl}
-use Rattle.dio_core.specs.declared.process.TheConstants.{READ_AHEAD}
+use Rattle.dio_core.specs.declared.source.TheConstants.{READ_AHEAD}
 
 -- what is told now, by what has told from the first
 abbrev pub told_since : Option (List ℕ) → Option (List ℕ) → Option (List ℕ)

@@ -4,14 +4,10 @@
 //! Of the system's own connections no clause says what they send and when. They are connections that don't tell, each call of
 //! which but `finish` is one call of std's; that these do what is asked of them here is tested.
 
-ghost use Rattle.std.specs.Prelude.{◌≡◌, ℕ, ◌<◌, List, Option, None, Bool, length, not, IfSome, IsTrue, OnOk};
-ghost use Rattle.std.specs.Bool.{OnTrue};
+ghost use Rattle.std.specs.Prelude.{◌≡◌, ℕ, ◌<◌, List, Option, None, Bool, length, IfSome, IsTrue, OnOk};
 ghost use Rattle.dio_core.specs.Connections.{Receives, Sends};
-ghost use Rattle.dio_core.specs.Counts.{IsCounted};
-ghost use Rattle.dio_core.specs.Sinks.{Takes, write_failed, PassesOn, IsPassedOn};
+ghost use Rattle.dio_core.specs.Sinks.{PassesOn, IsPassedOn};
 
-use crate::count::Count;
-use crate::sink::Took;
 use std::io;
 use std::io::{Read, Write};
 use std::net::{Shutdown, TcpStream};
@@ -73,42 +69,6 @@ pub trait Connection {
     /// Lets what still comes run dry for a while, so that all that was sent reaches the other side: what is let go of with bytes
     /// unread would be cut off.
     fn finish(&self) {}
-}
-
-/// Sends some of the bytes. Where none could be sent that is a fault, which is counted.
-pub(crate) fn send_counted<C: Connection>(
-    connection: &mut C,
-    bytes: &[u8],
-    faults: &mut Count,
-) -> Took
-    requires { 0 < length bytes.now }
-    ensures takes { Takes result bytes.now (C.sent connection.old) (C.sent connection.new) }
-    ensures passes { PassesOn (C.sent connection.new) (C.passed connection.old) (C.passed connection.new) }
-    ensures coming { C.coming connection.new ≡ C.coming connection.old }
-    ensures counted { IsCounted (write_failed result) faults.old faults.new }
-{
-    match connection.send(bytes) {
-        Ok(count) if count > 0 => Took::Bytes(count),
-        _ => {
-            faults.add_one();
-            Took::Failed
-        }
-    }
-}
-
-/// Has a connection pass on what it keeps back. Where it can't that is a fault, which is counted.
-pub(crate) fn flush_counted<C: Connection>(connection: &mut C, faults: &mut Count) -> bool
-    ensures flushed { OnTrue result (IsPassedOn (C.sent connection.new) (C.passed connection.new)) }
-    ensures passes { PassesOn (C.sent connection.new) (C.passed connection.old) (C.passed connection.new) }
-    ensures coming { C.coming connection.new ≡ C.coming connection.old }
-    ensures sent { C.sent connection.new ≡ C.sent connection.old }
-    ensures counted { IsCounted (not result) faults.old faults.new }
-{
-    let is_flushed = connection.flush().is_ok();
-    if !is_flushed {
-        faults.add_one();
-    }
-    is_flushed
 }
 
 /// std's streams over TCP tell nothing.

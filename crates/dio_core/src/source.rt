@@ -1,12 +1,18 @@
-//! Where bytes come from. Contracts see the bytes that a source has left, where it tells them.
+//! Where bytes come from: any source, and the one over a reader of std. Contracts see the bytes that a source has left, where it
+//! tells them.
 
-ghost use Rattle.std.specs.Prelude.{◌≡◌, ◌==◌, ℕ, ◌<◌, ◌++◌, List, Option, length, take, drop, position};
+ghost use Rattle.std.specs.Prelude.{◌≡◌, ℕ, ◌<◌, ◌++◌, List, Option, length, take, drop, IfOk};
 ghost use Rattle.std.specs.Bool.{OnTrue};
 ghost use Rattle.dio_core.specs.Counts.{IsCounted};
 ghost use Rattle.dio_core.specs.Sources.{Gives, StopsAt, IsAhead, length_through, read_failed};
-ghost use Rattle.dio_core.specs.Links.{Outgoing};
+ghost use Rattle.dio_core.specs.Links.{Outgoing, no_sink, incoming};
 
-use memchr::memchr;
+use crate::count::Count;
+use memchr::{memchr, memrchr};
+use std::alloc::{AllocError, Global};
+use std::io::{BufRead, BufReader, Read};
+use std::marker::Model;
+use std::snapshot::Snapshot;
 
 /// What a read gave.
 #[derive(Clone, Copy, Debug, PartialEq, Eq)]
@@ -70,7 +76,7 @@ pub fn copy_through(last: u8, bytes: &[u8], buf: &mut [u8]) -> usize
     ensures copied { buf.new ≡ take result bytes.now ++ drop result buf.old }
 {
     let fits = &bytes[..buf.len().min(bytes.len())];
-    let count = match place_of(last, fits) {
+    let count = match memchr(last, fits) {
         Some(at) => at + 1,
         None => fits.len(),
     };
@@ -78,9 +84,82 @@ pub fn copy_through(last: u8, bytes: &[u8], buf: &mut [u8]) -> usize
     count
 }
 
-/// Where the first of these bytes stands.
-fn place_of(wanted: u8, bytes: &[u8]) -> Option<usize>
-    ensures { result ≡ position (λ byte. byte == wanted) bytes.now }
-{
-    memchr(wanted, bytes)
+/// How many bytes a [`StdSource`] asks of its reader at once.
+const READ_AHEAD: usize = 8192;
+
+/// A source over a reader, which reads ahead. It tells what the reader tells, and counts each error: over a reader that tells its
+/// bytes these contracts are those of any source, and the process's own tells nothing.
+#[derive(Drop)]
+pub struct StdSource<R: Read> {
+    reader: BufReader<R>,
+    first: Snapshot<R>,
+    faults: Count,
+}
+
+impl<R: Read> Model for StdSource<R> {
+    ghost use Rattle.std.specs.Prelude.{◌≡◌, is_some, true};
+    ghost use Rattle.std.specs.Io.Buffered.{reader_remaining};
+    ghost use Rattle.dio_core.specs.Links.{Incoming, incoming};
+    ghost use Rattle.dio_core.specs.Streams.{told_since};
+
+    ghost Value = { Incoming };
+
+    ghost view = { λ s. incoming (told_since (R.remaining s.first.value) (reader_remaining R.remaining s.reader)) s.faults };
+
+    ghost invariant = { λ s. is_some (R.remaining s.first.value) ≡ true → is_some (reader_remaining R.remaining s.reader) ≡ true };
+}
+
+impl<R: Read + Drop> StdSource<R> {
+    /// A source over this reader. For want of memory for what is read ahead the reader is dropped.
+    pub fn new(alloc: Global, reader: R) -> Result<StdSource<R>, AllocError>
+        ensures { IfOk result (λ source. source ≡ incoming (R.remaining reader) 0) }
+    {
+        let first = Snapshot::of(&reader);
+        match BufReader::with_capacity(alloc, READ_AHEAD, reader) {
+            Ok(reader) => Ok(StdSource {
+                reader,
+                first,
+                faults: Count::new(),
+            }),
+            Err(_) => Err(AllocError),
+        }
+    }
+}
+
+impl<R: Read + Drop> Source for StdSource<R> {
+    ghost left = { λ s. s.left };
+
+    ghost read_faults = { λ s. s.faults };
+
+    ghost written = { λ _. no_sink };
+
+    fn read(&mut self, buf: &mut [u8]) -> Got {
+        match self.reader.read(buf) {
+            Ok(0) => Got::End,
+            Ok(count) => Got::Bytes(count),
+            Err(_) => {
+                self.faults.add_one();
+                Got::Failed
+            }
+        }
+    }
+
+    fn read_through(&mut self, last: u8, buf: &mut [u8]) -> Got {
+        let ahead = self.reader.buffer();
+        if ahead.is_empty() {
+            return self.read(&mut buf[..1]);
+        }
+        let count = copy_through(last, ahead, buf);
+        self.reader.consume(count);
+        Got::Bytes(count)
+    }
+
+    // From behind, where of several lines the newline of the last is near.
+    fn sees(&self, last: u8) -> bool {
+        memrchr(last, self.reader.buffer()).is_some()
+    }
+
+    fn read_faults(&self) -> u64 {
+        self.faults.get()
+    }
 }

@@ -8,10 +8,10 @@ ghost use Rattle.dio_core.specs.Listeners.{Accepts, accept_failed};
 ghost use Rattle.dio_core.specs.Sources.{Gives, read_failed};
 ghost use Rattle.dio_core.specs.Sinks.{Takes, write_failed, PassesOn, IsPassedOn};
 
-use crate::connection::{Connection, flush_counted, send_counted};
+use crate::connection::Connection;
 use crate::count::Count;
 use crate::listener::{Accepted, End, Listener};
-use crate::sink::{Sink, Took};
+use crate::sink::{Sink, Took, flush_counted, send_counted};
 use crate::source::{Got, Source};
 use std::alloc::AllocError;
 use std::marker::Model;

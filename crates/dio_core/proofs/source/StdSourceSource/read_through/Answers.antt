@@ -6,7 +6,7 @@ use Rattle.std.specs.Io.Buffered.{reader_buffer, reader_capacity, reader_inner}
 use Rattle.dio_core.specs.Sources.{with_prefix}
 use Rattle.dio_core.specs.Streams.{told_since}
 use Rattle.dio_core.proofs.Sources.{gives_ahead}
-use Rattle.dio_core.proofs.process.StdSourceSource.read_through.Goals as goal
+use Rattle.dio_core.proofs.source.StdSourceSource.read_through.Goals as goal
 
 -- what was read ahead is told first
 told_ahead : (first below : Option (List ℕ)) (no_room : Bool) (ahead : List ℕ)
