@@ -67,8 +67,8 @@ pub(crate) fn least_unprepared(
             continue;
         }
         found = match found {
-            Some(other) if other < shard => found,
-            _ => Some(shard),
+            None => Some(shard),
+            Some(other) => Some(shard.min(other)),
         };
     }
     found

@@ -7,7 +7,7 @@ ghost use Rattle.journal_core.specs.Changes as spec;
 ghost use Rattle.journal_core.specs.Pairs.{AreNumbered};
 ghost use Rattle.journal_core.specs.code.Rising.{Rises};
 ghost use Rattle.journal_core.specs.Kinds.{AreOfTheirKinds, HasKinds};
-ghost use Rattle.journal_core.specs.code.ByShard.{room_at, HasRoom, AreByShard, HasGrown, HasPut, HasAdded};
+ghost use Rattle.journal_core.specs.code.ByShard.{list_at, room_at, HasRoom, AreByShard, HasGrown, HasPut, HasAdded};
 ghost use Rattle.journal_core.specs.code.Logs as logs;
 ghost use Rattle.journal_core.specs.code.Segments.{IsWhole};
 
@@ -85,14 +85,7 @@ impl Log {
         ensures whole { IsWhole result }
         ensures numbered { AreNumbered self.now.commits }
     {
-        match self.lists.get(shard as usize) {
-            Some(list) => list.lend(),
-            None => Changes {
-                skipped: 0,
-                sealed: &[],
-                last: &[],
-            },
-        }
+        in_shard(self.lists.as_slice(), shard)
     }
 
     /// The commits as a list. It is never refused for want of memory.
@@ -128,6 +121,21 @@ impl Log {
         self.room = 0;
         self.commits.push_reserved(commit);
         add_each(&mut self.lists, self.shards, changes.into_vec());
+    }
+}
+
+/// The changes in the list of a shard.
+fn in_shard(lists: &[Segments], shard: u8) -> Changes<'_>
+    ensures changes { listed result ≡ list_at lists.now shard }
+    ensures whole { IsWhole result }
+{
+    match lists.get(shard as usize) {
+        Some(list) => list.lend(),
+        None => Changes {
+            skipped: 0,
+            sealed: &[],
+            last: &[],
+        },
     }
 }
 

@@ -1,12 +1,21 @@
-use Rattle.std.proofs.Common.{Some, cond, sym, ap, ◌∙◌}
-use Rattle.docc_prepare.specs.Attempts.{lesser}
+use Rattle.std.proofs.Common.{◌≡◌, Some, cond, false, sym, ap, ◌∙◌}
+use Rattle.docc_prepare.specs.Attempts.{has_front, lesser}
 use Rattle.docc_prepare.proofs.Lowest.{unprepared_more}
+use Rattle.docc_prepare.proofs.observed.least_unprepared.Goals.{in-None, in-Some}
 use Rattle.docc_prepare.proofs.observed.least_unprepared.Goals as goal
 
+-- a shard without a front is counted with what was found
 pub loop-seen-preserved : goal.loop-seen-preserved
 loop-seen-preserved c =
-    unprepared_more c.args.shards c.args.fronts.now c.args.observations.now c.loop-seen.seen-index c.seen-item.result c.shard_of-shard.result c.loop-seen.found
-    _ c.loop-seen-test.true c.seen-item.is c.shard_of-shard.ensures
-    (ap (λ s. Some s) c.lesser.ensures
-    ∙ ap (λ b. cond b c.loop-seen.found (Some (lesser c.shard_of-shard.result c.loop-seen.found))) (sym c.if-has_front.false ∙ c.has_front.ensures))
+    let fronts = c.args.fronts.now in
+    let shard = c.shard_of-shard.result in
+    let found = c.loop-seen.found in
+    let counted : c.match-found.found ≡ Some (lesser shard found) =
+    elim c.match-found.branch [
+      | in-None w ↦ w.found-is ∙ ap (λ o. Some (lesser shard o)) (sym w.in-None.is)
+      | in-Some w ↦ w.found-is ∙ ap (λ n. Some n) w.min.ensures ∙ ap (λ o. Some (lesser shard o)) (sym w.in-Some.is)
+    ] in
+    let unprepared : has_front fronts shard ≡ false = sym c.has_front.ensures ∙ c.if-has_front.false in
+    unprepared_more c.args.shards fronts c.args.observations.now c.loop-seen.seen-index c.seen-item.result shard found c.match-found.found
+    c.loop-seen-test.true c.seen-item.is c.shard_of-shard.ensures (counted ∙ ap (λ b. cond b found (Some (lesser shard found))) (sym unprepared))
     ∙ c.loop-seen.invariant

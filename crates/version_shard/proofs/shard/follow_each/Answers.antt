@@ -2,7 +2,7 @@ use Rattle.std.proofs.Common.{◌≡◌, ℕ, ◌+◌, ◌-◌, ◌++◌, arith,
 use Rattle.std.proofs.Math.ListN.{drop_of_length-le}
 use Rattle.change_feed.specs.Lists.{listed}
 use Rattle.journal_core.specs.Tails.{tail_of}
-use Rattle.version_shard.specs.Shards.{Kept, horizon_at, versions_of}
+use Rattle.version_shard.specs.Shards.{Kept, versions_of}
 use Rattle.version_shard.specs.code.Following.{followed}
 use Rattle.version_shard.specs.code.Marks.{changed_by}
 use Rattle.version_shard.proofs.Keeping.{up_to-next, stops, at_err, at_ok, put_one}
@@ -10,7 +10,7 @@ use Rattle.version_shard.proofs.Pieces.{AreLeft, all-left, pieces-left, none-lef
 use Rattle.version_shard.proofs.shard.follow_each.Goals as goal
 
 -- the horizon before a commit
-before : (number window : ℕ) → number - (window + 1) ≡ horizon_at window (number - 1)
+before : (number window : ℕ) → number - (window + 1) ≡ (number - 1) - window
 before number window = omega arith
 
 pub loop-piece-init : goal.loop-piece-init

@@ -9,5 +9,5 @@ pub returns-clause-rises : goal.returns-clause-rises
 returns-clause-rises c =
     let log = c.self.inside in
     rw c.in_shard.ensures.changes (rw c.as_slice.ensures.value (rw (c.self.invariant.theirs.theirs c.args.shard)
-    (rises-filter (λ change. shard_of change.address log.shards == c.args.shard) 0 (changes log.commits.0)
-    (changes-rise 0 log.commits.0 c.self.invariant.numbered))))
+    (rises-filter (λ change. shard_of change.address log.shards == c.args.shard) 0 (changes log.commits.items)
+    (changes-rise 0 log.commits.items c.self.invariant.numbered))))
