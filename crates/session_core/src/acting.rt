@@ -21,16 +21,8 @@ use client_watches::{NewWatch, ReplyList};
 use dio_core::LONGEST_LINE;
 use docc_prepare::Backend;
 use session_text::Reply;
-use std::alloc::{AllocError, Global};
+use std::alloc::Global;
 use watch_reruns::Rerunner;
-
-/// Memory for one reply.
-fn place(alloc: Global) -> Result<Vec<Reply>, AllocError>
-    ensures none { IfOk result (λ place. place.items ≡ []) }
-    ensures room { IfOk result (λ place. vec_len place < vec_capacity place) }
-{
-    Vec::with_capacity(alloc, 1)
-}
 
 /// One reply, in the memory that was taken for it.
 #[inline(always)]
@@ -73,7 +65,7 @@ fn act<B: Backend, R: Rerunner>(
         (λ turn. (session.new, turn)) backend.new }
     ensures home { B.home backend.new ≡ B.home backend.old }
 {
-    let place = place(alloc)?;
+    let place = Vec::with_capacity(alloc, 1)?;
     match line {
         Line::Quiet => Ok(Turn::Quiet),
         Line::Refused(reason) => said(place, Ok(Reply::Refused(reason))),

@@ -18,6 +18,7 @@ use crate::session::Session;
 use docc_prepare::{Attempt, Backend};
 use session_text::Reply;
 use std::alloc::Global;
+use txn_eval::Pause;
 
 /// Makes events of an attempt until its append is next, or it has ended.
 #[inline(always)]
@@ -33,7 +34,10 @@ fn until_append<B: Backend>(
         backend.new attempt.new }
     ensures home { B.home backend.new ≡ B.home backend.old }
 {
-    let mut known = Remembered::nothing(alloc);
+    let mut known = Remembered {
+        ran: None,
+        pause: Pause::begun(alloc),
+    };
     for _ in 0..MOST_EVENTS {
         let near = event_on(alloc, backend, session, attempt, &mut known)?;
         if let Some(end) = near {
@@ -87,23 +91,6 @@ fn attempt_once<B: Backend>(
     }
 }
 
-/// The same, where the attempt isn't needed again.
-fn last_attempt<B: Backend>(
-    alloc: Global,
-    backend: &mut B,
-    session: &Session,
-    attempt: Attempt,
-) -> Result<Reply, SessionError>
-    requires attends { Attends (B.known backend.old) (closed session.now) }
-    requires holds { Holds (B.known backend.old) attempt }
-    ensures plays { DoesLast B.known B.goes backend.old (verbs.attempt_once session.now attempt)
-        result backend.new }
-    ensures home { B.home backend.new ≡ B.home backend.old }
-{
-    backend.refresh()?;
-    drive(alloc, backend, session, attempt)
-}
-
 /// The attempt, of which nothing is read any more.
 fn afresh(alloc: Global, attempt: Attempt) -> Attempt
     ensures { result ≡ spec.afresh attempt }
@@ -154,5 +141,7 @@ pub fn try_times<B: Backend>(
         }
         attempt = afresh(alloc, attempt);
     }
-    last_attempt(alloc, backend, session, attempt)
+    // The last attempt isn't needed again.
+    backend.refresh()?;
+    drive(alloc, backend, session, attempt)
 }

@@ -134,24 +134,6 @@ fn read_event<B: Backend>(
     after_read(attempt, address, answer)
 }
 
-/// What a run observed in a shard, with bases.
-#[inline(always)]
-fn based_here(
-    alloc: Global,
-    attempt: &Attempt,
-    run: &Run,
-    shard: u8,
-) -> Result<BasedList, SessionError>
-    ensures ok { IfOk result (λ all.
-        all ≡ in_shard attempt.now.shards shard (based attempt.now.snaps run.now.observations)) }
-    ensures err { (e : SessionError) → result ≡ Err e → e ≡ SessionError.NoMemory }
-{
-    match attempt.based(alloc, run, shard) {
-        Ok(all) => Ok(all),
-        Err(AllocError) => Err(SessionError::NoMemory),
-    }
-}
-
 /// Prepares a shard for an attempt: it has a front more, or has ended with a reply.
 #[inline(always)]
 fn prepare_event<B: Backend>(
@@ -257,25 +239,8 @@ pub fn append_event<B: Backend>(
     handed(backend, ready)
 }
 
-/// What is handed to the journal of an attempt that isn't needed again. Its text and its fronts are moved.
-#[inline(always)]
-fn taken_apart(session: &Session, attempt: Attempt, run: Run, based: BasedList) -> Ready
-    requires { AreAllOf attempt run (Some based) }
-    ensures { result ≡ ready_of attempt run session.now.client session.now.seq }
-{
-    let Attempt { body, fronts, .. } = attempt;
-    let Checked { source, .. } = body;
-    Ready {
-        client: session.client,
-        seq: session.seq,
-        body: source,
-        run,
-        based,
-        fronts,
-    }
-}
-
-/// The same, where observations with bases may not be at hand.
+/// What is handed to the journal of an attempt that isn't needed again. Where observations with bases are at hand, its text and its
+/// fronts are moved.
 #[inline(always)]
 fn last_readied(
     alloc: Global,
@@ -290,10 +255,19 @@ fn last_readied(
     ensures err { (e : SessionError) → result ≡ Err e → e ≡ SessionError.NoMemory }
 {
     let LastRun { run, based } = last;
-    match based {
-        Some(all) => Ok(taken_apart(session, attempt, run, all)),
-        None => readied(alloc, session, &attempt, LastRun { run, based: None }),
-    }
+    let Some(based) = based else {
+        return readied(alloc, session, &attempt, LastRun { run, based: None });
+    };
+    let Attempt { body, fronts, .. } = attempt;
+    let Checked { source, .. } = body;
+    Ok(Ready {
+        client: session.client,
+        seq: session.seq,
+        body: source,
+        run,
+        based,
+        fronts,
+    })
 }
 
 /// Hands an attempt that isn't needed again to the journal, and answers the reply with which it ends.
@@ -371,7 +345,7 @@ pub fn event_on<B: Backend>(
             Ok(None)
         }
         Next::Prepare(shard, run) => {
-            let all = based_here(alloc, attempt, &run, shard)?;
+            let all = attempt.based(alloc, &run, shard)?;
             match prepare_event(backend, attempt, shard, &run, &all)? {
                 Ok(_) => {
                     // One shard has all that was observed, so the append is next.
@@ -410,7 +384,7 @@ pub fn event<B: Backend>(
             Ok(Moved::More(attempt, Reply::Read(shown, base)))
         }
         Next::Prepare(shard, run) => {
-            let all = based_here(alloc, &attempt, &run, shard)?;
+            let all = attempt.based(alloc, &run, shard)?;
             match prepare_event(backend, &mut attempt, shard, &run, &all)? {
                 Ok(front) => Ok(Moved::More(attempt, Reply::Prepared(shard, front))),
                 Err(reply) => Ok(Moved::End(attempt, reply)),

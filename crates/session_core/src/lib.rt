@@ -10,7 +10,6 @@
 
 mod acting;
 mod approach;
-mod body;
 mod driving;
 mod error;
 mod event;

@@ -16,7 +16,7 @@ loop-init g c = record {
   plays = here (ap (λ (n : ℕ). drive_in n c.args.session.now c.args.attempt.now) none_over);
   attends = c.requires.attends;
   holds = c.requires.holds;
-  known = c.nothing-known.ensures c.args.attempt.now;
+  known = record { ran = tt; pause = c.begun.ensures c.args.attempt.now.body.body.stmts c.args.attempt.now.snaps };
   home = refl;
 }
 

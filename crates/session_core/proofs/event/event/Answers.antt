@@ -31,7 +31,7 @@ returns-in-Read-clause-plays g c =
 pub returns-in_err-all-in-Prepare-clause-plays : goal.returns-in_err-all-in-Prepare-clause-plays
 returns-in_err-all-in-Prepare-clause-plays g c =
     does_fail _ c.from_residual-in_err-all-in-Prepare.result c.from_residual-in_err-all-in-Prepare.ensures.1
-    (StopsShort.before Leads.stays (no_fault (c.in_err-all-in-Prepare.ensures.err c.in_err-all-in-Prepare.field-0.0 refl)))
+    (StopsShort.before Leads.stays (no_fault refl))
 
 pub returns-in_err-front-in-Prepare-clause-plays : goal.returns-in_err-front-in-Prepare-clause-plays
 returns-in_err-front-in-Prepare-clause-plays g c =

@@ -28,7 +28,7 @@ returns-in_ok-read_event-in-Read-clause-nears g c = bound quiet c.in_ok-read_eve
 pub returns-in_err-all-in-Prepare-clause-nears : goal.returns-in_err-all-in-Prepare-clause-nears
 returns-in_err-all-in-Prepare-clause-nears g c =
     nears_fail c.args.session.now _ _ c.from_residual-in_err-all-in-Prepare.result c.from_residual-in_err-all-in-Prepare.ensures.1
-    (StopsShort.before Leads.stays (no_fault (c.in_err-all-in-Prepare.ensures.err c.in_err-all-in-Prepare.field-0.0 refl)))
+    (StopsShort.before Leads.stays (no_fault refl))
 
 pub returns-in_err-prepare_event-in-Prepare-clause-nears : goal.returns-in_err-prepare_event-in-Prepare-clause-nears
 returns-in_err-prepare_event-in-Prepare-clause-nears g c =
@@ -40,7 +40,7 @@ returns-then-len-clause-nears g c =
     whole_near c.args.session.now c.in-Prepare.shard c.in-Ok.field-0 c.in-Prepare.run' c.in_ok-all-in-Prepare.all
     (bound quiet (c.in_ok-prepare_event-in-Prepare.ensures.plays c.args.session.now)
     (here (ap (λ front. quiet (was_prepared c.in-Prepare.shard c.prepare_event.new.attempt front)) c.in-Ok.is)))
-    (sym c.in_ok-address.ensures.ok ∙ c.in-Prepare.is) c.in_ok-all-in-Prepare.ensures.ok
+    (sym c.in_ok-address.ensures.ok ∙ c.in-Prepare.is) c.in_ok-all-in-Prepare.ensures
     (subst (λ (r : Result ℕ Reply). IfOk r (λ f. c.prepare_event.new.attempt ≡ with_front c.args.attempt.now c.in-Prepare.shard f)) c.in-Ok.is
     c.in_ok-prepare_event-in-Prepare.ensures.front)
     (sym c.len.ensures ∙ (c.if-len.true ∙ c.len-in-Ok.ensures))

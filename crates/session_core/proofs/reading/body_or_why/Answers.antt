@@ -6,7 +6,7 @@ use Rattle.txn_lang.specs.declared.checked.Checked.{Checked}
 use Rattle.session_core.specs.Bodies.{body_of}
 use Rattle.session_core.specs.Holding.{IsReady}
 use Rattle.session_core.proofs.Bodies.{split-reads, split-ready}
-use Rattle.session_core.proofs.body.body_or_why.Goals as goal
+use Rattle.session_core.proofs.reading.body_or_why.Goals as goal
 
 pub returns-clause-reads : goal.returns-clause-reads
 returns-clause-reads c = subst (λ (r : Result (Result Checked Why) AllocError). IfOk r (λ x. body_of c.args.read_only c.args.text ≡ x))

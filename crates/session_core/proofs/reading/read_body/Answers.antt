@@ -2,7 +2,7 @@ use Rattle.std.proofs.Common.{◌≡◌, length, ap, sym, subst, ◌∙◌, arit
 use Rattle.txn_grammar.specs.Characters.{Text}
 use Rattle.txn_grammar.specs.Parsed.{parsed, IsSyntaxColumn}
 use Rattle.session_core.proofs.Bodies.{kept_reads, parse-reads, check-reads, reads-checked, is-ready}
-use Rattle.session_core.proofs.body.read_body.Goals as goal
+use Rattle.session_core.proofs.reading.read_body.Goals as goal
 
 pub returns-in-Err-clause-reads : goal.returns-in-Err-clause-reads
 returns-in-Err-clause-reads c =
