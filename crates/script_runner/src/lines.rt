@@ -12,7 +12,7 @@ ghost use Rattle.script_runner.specs.Play as spec;
 ghost use Rattle.script_runner.specs.Worlds.{world_of, Stands};
 
 use crate::replies::{push_line, push_refused, push_turn};
-use crate::words::{after_word, client_named, first_word, is_follow, shard_named};
+use crate::words::{client_named, shard_named, split_word};
 use crate::world::Script;
 use client_watches::Means;
 use dio_core::{LONGEST_LINE, Line};
@@ -120,8 +120,9 @@ fn client_line<R: Rerunner>(
     let Some(session) = place else {
         return push_refused(output, None, Why::Client);
     };
-    if is_follow(text) {
-        let shard = shard_named(world.shards(), after_word(text));
+    let (word, behind) = split_word(text);
+    if word == b"follow".as_slice() {
+        let shard = shard_named(world.shards(), behind);
         return follow_line(world, client, shard, output);
     }
     let turn = in_world(means, world, session, spoken)?;
@@ -131,31 +132,7 @@ fn client_line<R: Rerunner>(
     push_turn(output, client, &turn)
 }
 
-/// What follows the first word of a line, which names a client or none.
-fn named_line<R: Rerunner>(
-    means: &Means<'_, R>,
-    script: &mut Script,
-    client: Option<u32>,
-    text: &[u8],
-    output: &mut Text,
-) -> Result<(), AllocError>
-    requires client { IfSome client (λ n. n < CLIENTS) }
-    requires stands { Stands (world_of script.old) }
-    requires short { length text.now ≤ LONGEST_LINE }
-    ensures { Answers result output.old output.new (world_of script.new)
-        (spec.named_line (world_of script.old) client text.now) }
-{
-    match client {
-        Some(client) => {
-            let place = &mut script.sessions[client as usize];
-            let spoken = Spoken { client, text };
-            client_line(means, &mut script.world, place, spoken, output)
-        }
-        None => push_refused(output, None, Why::Client),
-    }
-}
-
-/// A line without the blanks at its beginning.
+/// A line without the blanks at its beginning: its first word names a client or none.
 fn text_line<R: Rerunner>(
     means: &Means<'_, R>,
     script: &mut Script,
@@ -170,8 +147,18 @@ fn text_line<R: Rerunner>(
     if is_quiet(text) {
         return Ok(());
     }
-    let client = client_named(first_word(text));
-    named_line(means, script, client, after_word(text), output)
+    let (word, behind) = split_word(text);
+    match client_named(word) {
+        Some(client) => {
+            let place = &mut script.sessions[client as usize];
+            let spoken = Spoken {
+                client,
+                text: behind,
+            };
+            client_line(means, &mut script.world, place, spoken, output)
+        }
+        None => push_refused(output, None, Why::Client),
+    }
 }
 
 /// Does a line, and adds the bytes of its reply to the output. After want of memory the script is of no use.

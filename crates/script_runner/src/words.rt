@@ -1,8 +1,6 @@
 //! The words of a line that are read before a session reads the rest.
 
 ghost use Rattle.std.specs.Prelude.{◌≡◌, ◌≤◌, ◌<◌, length, IfSome};
-ghost use Rattle.std.specs.List.{prefix_len};
-ghost use Rattle.session_text.specs.Lines.{is_solid};
 ghost use Rattle.script_runner.specs.Words as spec;
 
 use dtext::is_blank;
@@ -12,28 +10,14 @@ use session_core::{trimmed_end, trimmed_start};
 /// The last client of a script. The first is 0.
 pub const LAST_CLIENT: u32 = 63;
 
-/// How many bytes the first word has.
-fn word_len(text: &[u8]) -> usize
-    ensures value { result ≡ prefix_len is_solid text.now }
-    ensures within { result ≤ length text.now }
+/// The first word of a text that begins with no blank, and what comes behind it and its blanks.
+pub fn split_word(text: &[u8]) -> (&[u8], &[u8])
+    ensures word { result.0.now ≡ spec.first_word text.now }
+    ensures behind { result.1.now ≡ spec.after_word text.now }
+    ensures shorter { length result.1.now ≤ length text.now }
 {
-    prefix_len(text, |byte| !is_blank(*byte))
-}
-
-/// The first word of a text that begins with no blank.
-pub fn first_word(text: &[u8]) -> &[u8]
-    ensures value { result.now ≡ spec.first_word text.now }
-    ensures shorter { length result.now ≤ length text.now }
-{
-    &text[..word_len(text)]
-}
-
-/// What comes behind the first word and its blanks.
-pub fn after_word(text: &[u8]) -> &[u8]
-    ensures value { result.now ≡ spec.after_word text.now }
-    ensures shorter { length result.now ≤ length text.now }
-{
-    trimmed_start(&text[word_len(text)..])
+    let (word, behind) = text.split_at(prefix_len(text, |byte| !is_blank(*byte)));
+    (word, trimmed_start(behind))
 }
 
 /// A number of one digit or two, without a leading zero.
@@ -58,13 +42,6 @@ pub fn client_named(word: &[u8]) -> Option<u32>
         Some(client) if client <= LAST_CLIENT => Some(client),
         _ => None,
     }
-}
-
-/// Whether a line is to let a shard follow.
-pub fn is_follow(text: &[u8]) -> bool
-    ensures { result ≡ spec.is_follow text.now }
-{
-    first_word(text) == b"follow".as_slice()
 }
 
 /// The shard that a text names, of so many.
