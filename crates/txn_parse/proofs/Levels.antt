@@ -23,39 +23,38 @@ use Rattle.txn_parse.specs.code.Lists.{and_more}
 use Rattle.txn_parse.proofs.Heads.{begins_at}
 
 -- the leaf that is ahead
-pub leaf_chosen : (ts : List Spot) (o : Option Leaf) → o ≡ of_next leaf_at (next ts) → a_leaf ts ≡ leaf_read (unwrap_or o leaf.Name) ts
+pub leaf_chosen : (ts : List Spot) (o : Option Leaf) (b : Leaf) → o ≡ of_next leaf_at (next ts) → b ≡ unwrap_or o leaf.Name → a_leaf ts ≡ leaf_read b ts
 unfolding a_leaf
-leaf_chosen ts o e = ap (λ x. leaf_read (unwrap_or x leaf.Name) ts) (sym e)
-
-module _ (u e : Reader Spot Expr) (ts : List Spot) where
-  -- the reader of unary expressions, by the test on what is ahead
-  by : (b : Bool) → begins opener_at (next ts) ≡ b → unary_of u e ts ≡ cond b (opened u e ts) (a_leaf ts)
-  unfolding unary_of
-  by b h = ap (λ x. cond x (opened u e ts) (a_leaf ts)) h
-
-  -- what is ahead opens a level
-  pub unary_opens : (b : Opener) → Some b ≡ of_next opener_at (next ts) → unary_of u e ts ≡ opened_read u e b ts
-  unfolding opened
-  unary_opens b h = by true (begins_at opener_at (next ts) ∙ ap is_made (sym h)) ∙ ap (λ x. opened_read u e (unwrap_or x opener.Read) ts) (sym h)
-
-  -- or is a leaf
-  pub unary_leaf : None ≡ of_next opener_at (next ts) → unary_of u e ts ≡ a_leaf ts
-  unary_leaf h = by false (begins_at opener_at (next ts) ∙ ap is_made (sym h))
+leaf_chosen ts o b e k = ap (λ x. leaf_read (unwrap_or x leaf.Name) ts) (sym e) ∙ ap (λ x. leaf_read x ts) (sym k)
 
 -- with no level left
 pub unary_last : (n : ℕ) (ts : List Spot) → n ≡ 0 → unary n ts ≡ a_leaf ts
 unfolding unary
 unary_last n ts e = ap (λ m. unary m ts) e
 
+module _ (n : ℕ) (ts : List Spot) (some : 0 < n) where
+  -- with one, what is unary goes by the test on what is ahead
+  by : (b : Bool) → begins opener_at (next ts) ≡ b → unary n ts ≡ cond b (opened (unary (n - 1)) (expression (n - 1)) ts) (a_leaf ts)
+  unfolding unary expression unary_of
+  by b h =
+      let e : n ≡ suc (n - 1) = omega arith in
+      ap (λ m. unary m ts) e ∙ ap (λ x. cond x (opened (unary (n - 1)) (expression (n - 1)) ts) (a_leaf ts)) h
+
+  -- what is ahead opens a level
+  pub unary_opens : (b : Opener) → Some b ≡ of_next opener_at (next ts) → unary n ts ≡ opened_read (unary (n - 1)) (expression (n - 1)) b ts
+  unfolding opened
+  unary_opens b h =
+      by true (begins_at opener_at (next ts) ∙ ap is_made (sym h))
+      ∙ ap (λ x. opened_read (unary (n - 1)) (expression (n - 1)) (unwrap_or x opener.Read) ts) (sym h)
+
+  -- or is a leaf
+  pub unary_leaf : None ≡ of_next opener_at (next ts) → unary n ts ≡ a_leaf ts
+  unary_leaf h = by false (begins_at opener_at (next ts) ∙ ap is_made (sym h))
+
 -- without a level a negation is a comparison of what is unary without one
 pub negation_last : (n : ℕ) (ts : List Spot) → n ≡ 0 → negation n ts ≡ comparison_of (unary n) ts
 unfolding unary
 negation_last n ts e = ap (λ m. negation m ts) e ∙ ap (λ m. comparison_of (unary m) ts) (sym e)
-
--- with one
-pub unary_deeper : (n : ℕ) (ts : List Spot) → 0 < n → unary n ts ≡ unary_of (unary (n - 1)) (expression (n - 1)) ts
-unfolding unary expression
-unary_deeper n ts some = let e : n ≡ suc (n - 1) = omega arith in ap (λ m. unary m ts) e
 
 -- with a level left the reader has a case for `not`, and what stands behind that has one less
 pub negation_deeper : (n : ℕ) (ts : List Spot) → 0 < n → negation n ts ≡ negation_of (negation (n - 1)) (unary n) ts
@@ -94,17 +93,18 @@ arguments_some e n ts h = let k : n ≡ suc (n - 1) = omega arith in ap (λ m. a
 -- ---- statements
 
 -- the form that was found ahead is the one that the reader chooses
-pub simple_chosen : (e : Reader Spot Expr) (ts : List Spot) (o : Option Simple) → o ≡ of_next simple_at (next ts)
-    → simple_stmt e ts ≡ simple_read e (unwrap_or o simple.Emit) ts
+pub simple_chosen : (e : Reader Spot Expr) (ts : List Spot) (o : Option Simple) (b : Simple) → o ≡ of_next simple_at (next ts) → b ≡ unwrap_or o simple.Emit
+    → simple_stmt e ts ≡ simple_read e b ts
 unfolding simple_stmt
-simple_chosen e ts o h = ap (λ x. simple_read e (unwrap_or x simple.Emit) ts) (sym h)
+simple_chosen e ts o b h k = ap (λ x. simple_read e (unwrap_or x simple.Emit) ts) (sym h) ∙ ap (λ x. simple_read e x ts) (sym k)
 
 -- the form that was found ahead is the one that the reader chooses, also of statements that open a level
 pub nesting_chosen : (e a : Reader Spot Expr) (starts : Option Spot → Bool) (p : Reader Spot Stmt) (ts : List Spot)
-    (o : Option Nesting) → o ≡ of_next nesting_at (next ts)
-    → nesting_stmt e a starts p ts ≡ nesting_read e a starts p (unwrap_or o nesting.Write) ts
+    (o : Option Nesting) (b : Nesting) → o ≡ of_next nesting_at (next ts) → b ≡ unwrap_or o nesting.Write
+    → nesting_stmt e a starts p ts ≡ nesting_read e a starts p b ts
 unfolding nesting_stmt
-nesting_chosen e a starts p ts o h = ap (λ x. nesting_read e a starts p (unwrap_or x nesting.Write) ts) (sym h)
+nesting_chosen e a starts p ts o b h k =
+    ap (λ x. nesting_read e a starts p (unwrap_or x nesting.Write) ts) (sym h) ∙ ap (λ x. nesting_read e a starts p x ts) (sym k)
 
 -- with no level left
 pub statement_last : (n : ℕ) (ts : List Spot) → n ≡ 0 → statement n ts ≡ simple_stmt (expression n) ts

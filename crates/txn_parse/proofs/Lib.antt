@@ -3,4 +3,3 @@ pub mod Calls
 pub mod Begun
 pub mod Levels
 pub mod Wholes
-pub mod Parts

@@ -3,7 +3,6 @@ pub mod Begun
 pub mod Closures
 pub mod Ended
 pub mod Found
-pub mod Keys
 pub mod Leveled
 pub mod Lists
 pub mod Nests

@@ -7,9 +7,8 @@ ghost use Rattle.txn_parse.specs.code.Begun as begun;
 ghost use Rattle.txn_parse.specs.code.Closures.{ReadsOver};
 
 use crate::Stop;
-use crate::kept::both;
 use crate::token::{operator, relation, sees_operator, sees_relation};
-use crate::tree::{chained, compared};
+use crate::tree::{both, chained, compared};
 use plain_data::Sequence;
 use predictive_parsing::Cursor;
 use std::alloc::Global;

@@ -8,31 +8,19 @@ ghost use Rattle.txn_grammar.specs.declared.rank.Rank.TheVariants as rank;
 ghost use Rattle.txn_grammar.specs.declared.symbol.Symbol.TheVariants as symbol;
 ghost use Rattle.txn_grammar.specs.code.Reader as spec;
 ghost use Rattle.txn_parse.specs.code.Begun as begun;
-ghost use Rattle.txn_parse.specs.code.Keys.{key_end};
 ghost use Rattle.txn_parse.specs.code.Lists.{and_more};
 ghost use Rattle.txn_parse.specs.code.Nests.{Nests, placed};
 
 use crate::Stop;
 use crate::chain::{chain, comparison};
-use crate::kept::{both, in_front};
-use crate::leaf::leaf;
 use crate::place::Place;
-use crate::token::{ahead, joins, kind, read, sees, word};
-use crate::tree::{grouped, read_expr};
+use crate::token::{ahead, joins, kind, leaf, read, sees, word};
+use crate::tree::{both, boxed_beside, grouped, in_front};
 use plain_data::{Boxed, Sequence};
 use predictive_parsing::Cursor;
 use std::alloc::Global;
 use txn_grammar::{Opener, Rank, Spot, Symbol, Target, opener_of};
 use txn_trees::{Expr, ExprList, ExprNode};
-
-/// What closes a key, and the dot behind it.
-#[tactic(auto, unfolding(crate::specs::code::Keys::key_end))]
-fn key_end(cursor: &mut Cursor<Spot>) -> Result<u32, Stop>
-    ensures { Reads (key_end cursor.old) result cursor.new }
-{
-    word(cursor, Symbol::CloseParen)?;
-    word(cursor, Symbol::Dot)
-}
 
 /// The rules of expressions with so many levels left, over the reader of what stands inside one.
 #[derive(Drop)]
@@ -264,9 +252,8 @@ impl<F: Fn(Global, &mut Cursor<'_, Spot>, u8, Place) -> Result<Expr, Stop>> Gram
         Ok((column, found))
     }
 
-    /// A kind, and its key in parentheses, up to the dot. What closes the key is read with the dot, so that the key is kept
-    /// once.
-    #[tactic(auto, using(crate::proofs::Parts::targeted_parts))]
+    /// A kind, and its key in parentheses, up to the dot.
+    #[tactic(auto, unfolding(txn_grammar::specs::code::Reader::targeted, txn_grammar::specs::code::Reader::in_parens))]
     #[inline(always)]
     pub(crate) fn targeted(&self, cursor: &mut Cursor<Spot>) -> Result<Target, Stop>
         requires nests { Nests self.now.levels (F.pre self.now.inside) (F.post self.now.inside) }
@@ -276,7 +263,8 @@ impl<F: Fn(Global, &mut Cursor<'_, Spot>, u8, Place) -> Result<Expr, Stop>> Gram
         let (column, kind) = kind(cursor)?;
         word(cursor, Symbol::OpenParen)?;
         let key = self.inside(cursor, Place::Whole)?;
-        let (key, _) = both(key, key_end(cursor))?;
+        let (key, _) = both(key, word(cursor, Symbol::CloseParen))?;
+        let (key, _) = both(key, word(cursor, Symbol::Dot))?;
         Ok(Target { column, kind, key })
     }
 
@@ -292,50 +280,31 @@ impl<F: Fn(Global, &mut Cursor<'_, Spot>, u8, Place) -> Result<Expr, Stop>> Gram
         let (target, (_, operation)) = both(target, operation)?;
         let arguments = self.arguments_in_parens(cursor, operation.arguments);
         let (target, (_, arguments)) = both(target, arguments)?;
-        let expr = read_expr(self.alloc, target, operation.word, arguments)?;
-        Ok(expr)
+        let Target { column, kind, key } = target;
+        let (key, arguments) = boxed_beside(self.alloc, key, arguments)?;
+        Ok(Expr {
+            column,
+            node: ExprNode::Read(kind, key, operation.word, arguments),
+        })
     }
 
-    /// What opens a level so.
-    #[inline(always)]
-    fn opened(&self, cursor: &mut Cursor<Spot>, opener: Opener) -> Result<Expr, Stop>
-        requires nests { Nests self.now.levels (F.pre self.now.inside) (F.post self.now.inside) }
-        requires some { 0 < self.now.levels }
-        ensures { Reads (spec.opened_read (spec.unary (self.now.levels - 1)) (spec.expression (self.now.levels - 1)) opener cursor.old) result cursor.new }
-    {
-        match opener {
-            Opener::Negative => self.negative(cursor),
-            Opener::Group => self.group(cursor),
-            Opener::Len => self.len(cursor),
-            Opener::Str => self.str(cursor),
-            Opener::Texts => self.texts(cursor),
-            Opener::Read => self.read(cursor),
-        }
-    }
-
-    /// An operand, where a level is left: it opens one, or is a leaf.
-    #[tactic(auto, using(crate::proofs::Levels::unary_opens, crate::proofs::Levels::unary_leaf))]
-    fn unary_of(&self, cursor: &mut Cursor<Spot>) -> Result<Expr, Stop>
-        requires nests { Nests self.now.levels (F.pre self.now.inside) (F.post self.now.inside) }
-        requires some { 0 < self.now.levels }
-        ensures { Reads (spec.unary_of (spec.unary (self.now.levels - 1)) (spec.expression (self.now.levels - 1)) cursor.old) result cursor.new }
-    {
-        match ahead(cursor, |spot| opener_of(&spot.token)) {
-            Some(opener) => self.opened(cursor, opener),
-            None => leaf(cursor),
-        }
-    }
-
-    /// An operand.
-    #[tactic(auto, using(crate::proofs::Levels::unary_last, crate::proofs::Levels::unary_deeper))]
+    /// An operand: where a level is left it may open one, and else it is a leaf.
+    #[tactic(auto, using(crate::proofs::Levels::unary_last, crate::proofs::Levels::unary_opens, crate::proofs::Levels::unary_leaf))]
     fn unary(&self, cursor: &mut Cursor<Spot>) -> Result<Expr, Stop>
         requires { Nests self.now.levels (F.pre self.now.inside) (F.post self.now.inside) }
         ensures { Reads (spec.unary self.now.levels cursor.old) result cursor.new }
     {
         if self.levels == 0 {
-            leaf(cursor)
-        } else {
-            self.unary_of(cursor)
+            return leaf(cursor);
+        }
+        match ahead(cursor, |spot| opener_of(&spot.token)) {
+            Some(Opener::Negative) => self.negative(cursor),
+            Some(Opener::Group) => self.group(cursor),
+            Some(Opener::Len) => self.len(cursor),
+            Some(Opener::Str) => self.str(cursor),
+            Some(Opener::Texts) => self.texts(cursor),
+            Some(Opener::Read) => self.read(cursor),
+            None => leaf(cursor),
         }
     }
 

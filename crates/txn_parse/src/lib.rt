@@ -10,10 +10,7 @@
 
 mod chain;
 mod grammar;
-mod kept;
-mod leaf;
 mod place;
-mod simple;
 mod statement;
 mod token;
 mod tree;

@@ -1,4 +1,4 @@
-//! Statements that open a level, over the reader of the statements inside it, and bodies.
+//! Statements that open no level themselves; those that open one, over the reader of the statements inside it; and bodies.
 
 ghost use Rattle.std.specs.Prelude.{◌≡◌, ◌<◌, ◌-◌};
 ghost use Rattle.predictive_parsing.specs.Reading.{next};
@@ -9,28 +9,77 @@ ghost use Rattle.txn_parse.specs.code.Leveled as leveled;
 
 use crate::Stop;
 use crate::grammar::{Grammar, placed_read};
-use crate::kept::both;
-use crate::simple::{expression, simple_stmt};
+use crate::place::Place;
 use crate::token::{ahead, begins, name, sees, word, write};
-use crate::tree::write_stmt;
+use crate::tree::both;
 use plain_data::Sequence;
 use predictive_parsing::Cursor;
 use std::alloc::Global;
-use txn_grammar::{DEEPEST, Nesting, Spot, Symbol, nesting_of, simple_of};
+use txn_grammar::{DEEPEST, Nesting, Simple, Spot, Symbol, Target, nesting_of, simple_of};
 use txn_trees::{Body, Stmt, StmtList, StmtNode};
+
+/// `let`, a name, and what it stands for.
+#[tactic(auto, unfolding(txn_grammar::specs::code::Reader::let_stmt))]
+fn let_stmt(alloc: Global, cursor: &mut Cursor<Spot>, levels: u8) -> Result<Stmt, Stop>
+    ensures { Reads (spec.let_stmt (spec.expression levels) cursor.old) result cursor.new }
+{
+    let column = word(cursor, Symbol::Let)?;
+    let (_, found) = name(cursor)?;
+    let (found, _) = both(found, word(cursor, Symbol::Assign))?;
+    let value = placed_read(alloc, cursor, levels, Place::Whole);
+    let read = both(found, value)?;
+    let ((found, value), _) = both(read, word(cursor, Symbol::Semicolon))?;
+    Ok(Stmt {
+        column,
+        node: StmtNode::Let(found, value),
+    })
+}
+
+/// `emit` and an expression.
+#[tactic(auto, unfolding(txn_grammar::specs::code::Reader::emit_stmt))]
+fn emit_stmt(alloc: Global, cursor: &mut Cursor<Spot>, levels: u8) -> Result<Stmt, Stop>
+    ensures { Reads (spec.emit_stmt (spec.expression levels) cursor.old) result cursor.new }
+{
+    let column = word(cursor, Symbol::Emit)?;
+    let value = placed_read(alloc, cursor, levels, Place::Whole)?;
+    let (value, _) = both(value, word(cursor, Symbol::Semicolon))?;
+    Ok(Stmt {
+        column,
+        node: StmtNode::Emit(value),
+    })
+}
+
+/// `fail` and an expression.
+#[tactic(auto, unfolding(txn_grammar::specs::code::Reader::fail_stmt))]
+fn fail_stmt(alloc: Global, cursor: &mut Cursor<Spot>, levels: u8) -> Result<Stmt, Stop>
+    ensures { Reads (spec.fail_stmt (spec.expression levels) cursor.old) result cursor.new }
+{
+    let column = word(cursor, Symbol::Fail)?;
+    let value = placed_read(alloc, cursor, levels, Place::Whole)?;
+    let (value, _) = both(value, word(cursor, Symbol::Semicolon))?;
+    Ok(Stmt {
+        column,
+        node: StmtNode::Fail(value),
+    })
+}
+
+/// The simple statement that is ahead.
+#[tactic(auto, using(crate::proofs::Levels::simple_chosen))]
+fn simple_stmt(alloc: Global, cursor: &mut Cursor<Spot>, levels: u8) -> Result<Stmt, Stop>
+    ensures { Reads (spec.simple_stmt (spec.expression levels) cursor.old) result cursor.new }
+{
+    match ahead(cursor, |spot| simple_of(&spot.token)).unwrap_or(Simple::Emit) {
+        Simple::Let => let_stmt(alloc, cursor, levels),
+        Simple::Emit => emit_stmt(alloc, cursor, levels),
+        Simple::Fail => fail_stmt(alloc, cursor, levels),
+    }
+}
 
 /// Whether a simple statement is ahead.
 fn begins_simple(cursor: &Cursor<Spot>) -> bool
     ensures { result ≡ spec.begins_simple (next cursor.now) }
 {
     begins(cursor, |spot| simple_of(&spot.token))
-}
-
-/// Whether a statement that opens a level is ahead.
-fn begins_nesting(cursor: &Cursor<Spot>) -> bool
-    ensures { result ≡ spec.begins_nesting (next cursor.now) }
-{
-    begins(cursor, |spot| nesting_of(&spot.token))
 }
 
 /// Whether a statement begins here, with so many levels left.
@@ -41,7 +90,7 @@ fn begins_statement(cursor: &Cursor<Spot>, levels: u8) -> bool
     if levels == 0 {
         begins_simple(cursor)
     } else {
-        begins_simple(cursor) || begins_nesting(cursor)
+        begins_simple(cursor) || begins(cursor, |spot| nesting_of(&spot.token))
     }
 }
 
@@ -93,30 +142,19 @@ impl<F: Fn(Global, &mut Cursor<'_, Spot>, u8) -> Result<Stmt, Stop>> Statements<
         Ok(found)
     }
 
-    /// `else` and a block.
-    #[tactic(auto, unfolding(txn_grammar::specs::code::Reader::otherwise_read))]
-    fn otherwise(&self, cursor: &mut Cursor<Spot>) -> Result<StmtList, Stop>
-        requires nests { NestsStatements self.now.levels (F.pre self.now.inside) (F.post self.now.inside) }
-        requires some { 0 < self.now.levels }
-        ensures { Reads (leveled.otherwise self.now.levels cursor.old) result cursor.new }
-    {
-        word(cursor, Symbol::Else)?;
-        self.block(cursor)
-    }
-
-    /// The same, where it is ahead.
-    #[tactic(auto, unfolding(predictive_parsing::specs::Reading::optional))]
+    /// `else` and a block, where it is ahead.
+    #[tactic(auto, unfolding(predictive_parsing::specs::Reading::optional, txn_grammar::specs::code::Reader::otherwise_read))]
     fn any_otherwise(&self, cursor: &mut Cursor<Spot>) -> Result<Option<StmtList>, Stop>
         requires nests { NestsStatements self.now.levels (F.pre self.now.inside) (F.post self.now.inside) }
         requires some { 0 < self.now.levels }
         ensures { Reads (leveled.any_otherwise self.now.levels cursor.old) result cursor.new }
     {
-        if sees(cursor, Symbol::Else) {
-            let found = self.otherwise(cursor)?;
-            Ok(Some(found))
-        } else {
-            Ok(None)
+        if !sees(cursor, Symbol::Else) {
+            return Ok(None);
         }
+        word(cursor, Symbol::Else)?;
+        let found = self.block(cursor)?;
+        Ok(Some(found))
     }
 
     /// `if`, a condition, a block, and what runs else.
@@ -127,7 +165,7 @@ impl<F: Fn(Global, &mut Cursor<'_, Spot>, u8) -> Result<Stmt, Stop>> Statements<
         ensures { Reads (leveled.if_stmt self.now.levels cursor.old) result cursor.new }
     {
         let column = word(cursor, Symbol::If)?;
-        let condition = expression(self.alloc, cursor, self.levels)?;
+        let condition = placed_read(self.alloc, cursor, self.levels, Place::Whole)?;
         let holds = self.block(cursor);
         let read = both(condition, holds)?;
         let otherwise = self.any_otherwise(cursor);
@@ -148,7 +186,7 @@ impl<F: Fn(Global, &mut Cursor<'_, Spot>, u8) -> Result<Stmt, Stop>> Statements<
         let column = word(cursor, Symbol::For)?;
         let (_, found) = name(cursor)?;
         let (found, _) = both(found, word(cursor, Symbol::In))?;
-        let texts = expression(self.alloc, cursor, self.levels);
+        let texts = placed_read(self.alloc, cursor, self.levels, Place::Whole);
         let read = both(found, texts)?;
         let each = self.block(cursor);
         let ((found, texts), each) = both(read, each)?;
@@ -158,19 +196,6 @@ impl<F: Fn(Global, &mut Cursor<'_, Spot>, u8) -> Result<Stmt, Stop>> Statements<
         })
     }
 
-    /// This statement that opens a level.
-    fn nesting_read(&self, cursor: &mut Cursor<Spot>, nesting: Nesting) -> Result<Stmt, Stop>
-        requires nests { NestsStatements self.now.levels (F.pre self.now.inside) (F.post self.now.inside) }
-        requires some { 0 < self.now.levels }
-        ensures { Reads (leveled.nesting_read self.now.levels nesting cursor.old) result cursor.new }
-    {
-        match nesting {
-            Nesting::If => self.if_stmt(cursor),
-            Nesting::For => self.for_stmt(cursor),
-            Nesting::Write => write_stmt_read(self.alloc, cursor, self.levels),
-        }
-    }
-
     /// The statement that is ahead, which opens a level.
     #[tactic(auto, using(crate::proofs::Levels::nesting_chosen))]
     fn nesting_stmt(&self, cursor: &mut Cursor<Spot>) -> Result<Stmt, Stop>
@@ -178,14 +203,17 @@ impl<F: Fn(Global, &mut Cursor<'_, Spot>, u8) -> Result<Stmt, Stop>> Statements<
         requires some { 0 < self.now.levels }
         ensures { Reads (leveled.nesting_stmt self.now.levels cursor.old) result cursor.new }
     {
-        let found = ahead(cursor, |spot| nesting_of(&spot.token)).unwrap_or(Nesting::Write);
-        self.nesting_read(cursor, found)
+        match ahead(cursor, |spot| nesting_of(&spot.token)).unwrap_or(Nesting::Write) {
+            Nesting::If => self.if_stmt(cursor),
+            Nesting::For => self.for_stmt(cursor),
+            Nesting::Write => write_stmt(self.alloc, cursor, self.levels),
+        }
     }
 }
 
 /// A target, one of its kind's writes, and so many arguments as that takes.
 #[tactic(auto, unfolding(txn_grammar::specs::code::Reader::write_stmt_read))]
-fn write_stmt_read(alloc: Global, cursor: &mut Cursor<Spot>, levels: u8) -> Result<Stmt, Stop>
+fn write_stmt(alloc: Global, cursor: &mut Cursor<Spot>, levels: u8) -> Result<Stmt, Stop>
     requires { 0 < levels }
     ensures { Reads (spec.write_stmt_read (spec.expression (levels - 1)) cursor.old) result cursor.new }
 {
@@ -200,7 +228,11 @@ fn write_stmt_read(alloc: Global, cursor: &mut Cursor<Spot>, levels: u8) -> Resu
     let arguments = grammar.arguments_in_parens(cursor, operation.arguments);
     let read = both(target, arguments)?;
     let ((target, (_, arguments)), _) = both(read, word(cursor, Symbol::Semicolon))?;
-    Ok(write_stmt(target, operation.word, arguments))
+    let Target { column, kind, key } = target;
+    Ok(Stmt {
+        column,
+        node: StmtNode::Write(kind, key, operation.word, arguments),
+    })
 }
 
 /// A statement, with so many levels left.

@@ -1,4 +1,5 @@
-//! One token: what is ahead, and each reader of one token. A reader takes the token ahead, or refuses and leaves it there.
+//! One token: what is ahead, each reader of one token, and the expressions that one token is. A reader takes the token
+//! ahead, or refuses and leaves it there.
 
 ghost use Rattle.std.specs.Prelude.{◌≡◌, ℕ, List, Option, None};
 ghost use Rattle.std.specs.Option.{option_map};
@@ -16,10 +17,10 @@ use plain_data::{OrNoMemory, Text};
 use predictive_parsing::{Cursor, Refused};
 use rdt_types::Kind;
 use txn_grammar::{
-    Operation, Rank, Spot, Symbol, Token, is_symbol, kind_at, number_of, operator_at, read_at,
-    relation_at, truth_at, write_at,
+    Leaf, Operation, Rank, Spot, Symbol, Token, is_symbol, kind_at, leaf_of, number_of,
+    operator_at, read_at, relation_at, truth_at, write_at,
 };
-use txn_trees::{Operator, ReadWord, Relation, WriteWord};
+use txn_trees::{Expr, ExprNode, Operator, ReadWord, Relation, WriteWord};
 
 // ---- what is ahead
 
@@ -230,4 +231,64 @@ pub(crate) fn text(cursor: &mut Cursor<Spot>) -> Result<(u32, Text), OrNoMemory<
 {
     let found = text_ahead(cursor);
     take_copy(cursor, found)
+}
+
+// ---- expressions of one token
+
+#[tactic(auto, unfolding(txn_grammar::specs::code::Reader::number_leaf))]
+fn number_leaf(cursor: &mut Cursor<Spot>) -> Result<Expr, OrNoMemory<Refused>>
+    ensures { Reads (reader.number_leaf cursor.old) result cursor.new }
+{
+    let (column, value) = number(cursor)?;
+    Ok(Expr {
+        column,
+        node: ExprNode::Number(value),
+    })
+}
+
+#[tactic(auto, unfolding(txn_grammar::specs::code::Reader::text_leaf))]
+fn text_leaf(cursor: &mut Cursor<Spot>) -> Result<Expr, OrNoMemory<Refused>>
+    ensures { Reads (reader.text_leaf cursor.old) result cursor.new }
+{
+    let (column, bytes) = text(cursor)?;
+    Ok(Expr {
+        column,
+        node: ExprNode::Text(bytes),
+    })
+}
+
+#[tactic(auto, unfolding(txn_grammar::specs::code::Reader::truth_leaf))]
+fn truth_leaf(cursor: &mut Cursor<Spot>) -> Result<Expr, OrNoMemory<Refused>>
+    ensures { Reads (reader.truth_leaf cursor.old) result cursor.new }
+{
+    let (column, value) = truth(cursor)?;
+    Ok(Expr {
+        column,
+        node: ExprNode::Bool(value),
+    })
+}
+
+#[tactic(auto, unfolding(txn_grammar::specs::code::Reader::name_leaf))]
+fn name_leaf(cursor: &mut Cursor<Spot>) -> Result<Expr, OrNoMemory<Refused>>
+    ensures { Reads (reader.name_leaf cursor.old) result cursor.new }
+{
+    let (column, found) = name(cursor)?;
+    Ok(Expr {
+        column,
+        node: ExprNode::Name(found),
+    })
+}
+
+/// The expression of one token that is ahead.
+#[tactic(auto, using(crate::proofs::Levels::leaf_chosen))]
+#[inline(always)]
+pub(crate) fn leaf(cursor: &mut Cursor<Spot>) -> Result<Expr, OrNoMemory<Refused>>
+    ensures { Reads (reader.a_leaf cursor.old) result cursor.new }
+{
+    match ahead(cursor, |spot| leaf_of(&spot.token)).unwrap_or(Leaf::Name) {
+        Leaf::Number => number_leaf(cursor),
+        Leaf::Text => text_leaf(cursor),
+        Leaf::Truth => truth_leaf(cursor),
+        Leaf::Name => name_leaf(cursor),
+    }
 }

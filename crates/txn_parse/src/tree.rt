@@ -1,14 +1,46 @@
-//! How trees are put together.
+//! Trees: what is kept of them while more is read, and how they are put together. A tree that lives across a `?` would be
+//! let go on that way out, which a check has to follow; what is kept here is a value of any type.
 
-ghost use Rattle.std.specs.Prelude.{◌≡◌, Some, IfOk};
+ghost use Rattle.std.specs.Prelude.{◌≡◌, ◌∷◌, Some, Ok, Err, IfOk, IfErr};
 ghost use Rattle.txn_grammar.specs.Trees as tree;
 
-use crate::kept::boxed_beside;
+use crate::Stop;
+use plain_data::{Boxed, Sequence};
 use std::alloc::{AllocError, Global};
-use txn_grammar::Target;
-use txn_trees::{
-    Expr, ExprList, ExprNode, OperandList, ReadWord, Relation, Stmt, StmtNode, WriteWord,
-};
+use txn_trees::{Expr, ExprNode, OperandList, Relation};
+
+/// What was read first, and what was read behind it, where this was read.
+pub(crate) fn both<A: Drop, B>(first: A, next: Result<B, Stop>) -> Result<(A, B), Stop>
+    ensures read { IfOk result (λ both. (both.0 ≡ first) × (next ≡ Ok both.1)) }
+    ensures stops { IfErr result (λ stop. next ≡ Err stop) }
+{
+    match next {
+        Ok(next) => Ok((first, next)),
+        Err(stop) => Err(stop),
+    }
+}
+
+/// A first item, and those behind it.
+#[inline(always)]
+pub(crate) fn in_front<T: Drop>(first: T, others: Sequence<T>) -> Result<Sequence<T>, AllocError>
+    ensures { IfOk result (λ all. all ≡ first ∷ others) }
+{
+    let mut all = others;
+    all.insert(0, first)?;
+    Ok(all)
+}
+
+/// The value on the heap, and what is kept beside it.
+pub(crate) fn boxed_beside<A: Drop, B: Drop>(
+    alloc: Global,
+    value: A,
+    kept: B,
+) -> Result<(Boxed<A>, B), AllocError>
+    ensures { IfOk result (λ both. (both.0 ≡ value) × (both.1 ≡ kept)) }
+{
+    let value = Boxed::new(alloc, value)?;
+    Ok((value, kept))
+}
 
 /// What stands in parentheses, at the opening one.
 pub(crate) fn grouped(column: u32, inner: Expr) -> Expr
@@ -51,33 +83,4 @@ pub(crate) fn compared(
         column,
         node: ExprNode::Compare(left, relation, right),
     })
-}
-
-/// A read stands at its kind.
-#[inline(always)]
-pub(crate) fn read_expr(
-    alloc: Global,
-    target: Target,
-    word: ReadWord,
-    arguments: ExprList,
-) -> Result<Expr, AllocError>
-    ensures { IfOk result (λ expr. expr ≡ tree.read_expr target word arguments) }
-{
-    let Target { column, kind, key } = target;
-    let (key, arguments) = boxed_beside(alloc, key, arguments)?;
-    Ok(Expr {
-        column,
-        node: ExprNode::Read(kind, key, word, arguments),
-    })
-}
-
-/// A write stands at its kind.
-pub(crate) fn write_stmt(target: Target, word: WriteWord, arguments: ExprList) -> Stmt
-    ensures { result ≡ tree.write_stmt target word arguments }
-{
-    let Target { column, kind, key } = target;
-    Stmt {
-        column,
-        node: StmtNode::Write(kind, key, word, arguments),
-    }
 }
