@@ -19,9 +19,9 @@ use Rattle.session_text.specs.code.Words.{verbs_are_bytes}
 use Rattle.session_text.specs.declared.limits.TheConstants.{MOST_ATTEMPTS, LARGEST, NAME_REST}
 use Rattle.session_text.specs.declared.verb.Verb.{Verb}
 use Rattle.session_text.specs.declared.verb.Verb.TheVariants as verb
-use Rattle.session_text.specs.declared.verb_word.TheConstants.{OTHERS}
-use Rattle.session_text.specs.declared.verb_word.VerbWord.{VerbWord}
-use Rattle.session_text.specs.declared.verb_word.VerbWord.TheVariants as word
+use Rattle.session_text.specs.declared.words.TheConstants.{OTHER_VERBS}
+use Rattle.session_text.specs.declared.words.VerbWord.{VerbWord}
+use Rattle.session_text.specs.declared.words.VerbWord.TheVariants as word
 use Rattle.session_text.specs.Follows.{at_end}
 use Rattle.session_text.specs.Lines.{is_solid, is_any, Gap, Rest, BodyRule, NameRule, Alone, word_of, Form, VerbRule}
 use Rattle.session_text.specs.code.Lines.{gap, solid, rest, body, name, alone, tries, at, watch, unwatch, form, line}
@@ -250,7 +250,7 @@ word_solid word.Watch us = refl
 word_solid word.Unwatch us = refl
 
 -- each is among the words
-all_words : (w : VerbWord) → In (word.Do ∷ OTHERS) w
+all_words : (w : VerbWord) → In (word.Do ∷ OTHER_VERBS) w
 all_words word.Do = inl refl
 all_words word.Try = inr (inl refl)
 all_words word.Begin = inr (inr (inl refl))
@@ -267,11 +267,11 @@ all_words word.Watch = inr (inr (inr (inr (inr (inr (inr (inr (inr (inr (inr (in
 all_words word.Unwatch = inr (inr (inr (inr (inr (inr (inr (inr (inr (inr (inr (inr (inr (inl refl)))))))))))))
 
 -- these are all the verbs' words, made of bytes, and none begins another
-words : AreWords word_of word.Do OTHERS
+words : AreWords word_of word.Do OTHER_VERBS
 words = record { all = all_words; bytes = verbs_are_bytes; apart = refl }
 
 -- lines
 pub line_fits : Fits IsByte line VerbRule at_end
 unfolding line
-line_fits = followed IsByte (run_fits IsByte is_blank) (λ _. onwards IsByte (one_of_fits word_of word.Do OTHERS words) form_fits)
+line_fits = followed IsByte (run_fits IsByte is_blank) (λ _. onwards IsByte (one_of_fits word_of word.Do OTHER_VERBS words) form_fits)
     (λ u us vs b r e. ap (λ xs. no_blank (next xs)) r.first ∙ word_solid r.value r.middle)

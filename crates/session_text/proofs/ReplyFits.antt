@@ -25,12 +25,11 @@ use Rattle.session_text.specs.code.Words.{replies_are_bytes, reasons_are_bytes}
 use Rattle.session_text.specs.declared.limits.TheConstants.{LARGEST, LARGEST_SHARD, LARGEST_COLUMN, LARGEST_CLIENT}
 use Rattle.session_text.specs.declared.reply.Reply.TheVariants as reply
 use Rattle.session_text.specs.declared.reply.Why.TheVariants as why
-use Rattle.session_text.specs.declared.reply_word.ReplyWord.{ReplyWord}
-use Rattle.session_text.specs.declared.reply_word.ReplyWord.TheVariants as first
-use Rattle.session_text.specs.declared.reply_word.TheConstants as replies
-use Rattle.session_text.specs.declared.why_word.WhyWord.{WhyWord}
-use Rattle.session_text.specs.declared.why_word.WhyWord.TheVariants as reason
-use Rattle.session_text.specs.declared.why_word.TheConstants as whys
+use Rattle.session_text.specs.declared.words.ReplyWord.{ReplyWord}
+use Rattle.session_text.specs.declared.words.ReplyWord.TheVariants as first
+use Rattle.session_text.specs.declared.words.TheConstants.{OTHER_REPLIES, OTHER_REASONS}
+use Rattle.session_text.specs.declared.words.WhyWord.{WhyWord}
+use Rattle.session_text.specs.declared.words.WhyWord.TheVariants as reason
 use Rattle.session_text.specs.Printing.{word_of, why_of}
 use Rattle.session_text.specs.Lines.{NameRule}
 use Rattle.session_text.specs.Replies.{Numbered, ObsOf, Column, WhyForm, WhyRule, WitnessRule, Form, ReplyRule}
@@ -247,7 +246,7 @@ obs_of_fits kinds.Peak = peak_obs_fits
 -- ---- why a line is refused
 
 -- each reason is among the listed ones
-all_whys : (w : WhyWord) → In (reason.Long ∷ whys.OTHERS) w
+all_whys : (w : WhyWord) → In (reason.Long ∷ OTHER_REASONS) w
 all_whys reason.Long = inl refl
 all_whys reason.Client = inr (inl refl)
 all_whys reason.Verb = inr (inr (inl refl))
@@ -259,7 +258,7 @@ all_whys reason.Busy = inr (inr (inr (inr (inr (inr (inr (inl refl)))))))
 all_whys reason.NoAttempt = inr (inr (inr (inr (inr (inr (inr (inr (inl refl))))))))
 
 -- these are all the words for reasons, made of bytes, and none begins another
-why_words : AreWords why_of reason.Long whys.OTHERS
+why_words : AreWords why_of reason.Long OTHER_REASONS
 why_words = record { all = all_whys; bytes = reasons_are_bytes; apart = refl }
 
 -- reason by reason: nothing more, or a column
@@ -278,7 +277,7 @@ why_form_fits reason.NoAttempt = wide (pure_fits IsByte why.NoAttempt)
 -- a reason's word fits whatever follows, and tells what is read behind it
 why_fits : Fits IsByte why_read WhyRule no_digit
 unfolding why_read
-why_fits = onwards IsByte (one_of_fits why_of reason.Long whys.OTHERS why_words) why_form_fits
+why_fits = onwards IsByte (one_of_fits why_of reason.Long OTHER_REASONS why_words) why_form_fits
 
 -- ---- the forms
 
@@ -376,7 +375,7 @@ form_fits first.Refused = closed refused_fits
 -- ---- replies
 
 -- each first word is among the listed ones
-all_words : (w : ReplyWord) → In (first.Commit ∷ replies.OTHERS) w
+all_words : (w : ReplyWord) → In (first.Commit ∷ OTHER_REPLIES) w
 all_words first.Commit = inl refl
 all_words first.Abort = inr (inl refl)
 all_words first.Read = inr (inr (inl refl))
@@ -396,10 +395,10 @@ all_words first.Dropped = inr (inr (inr (inr (inr (inr (inr (inr (inr (inr (inr 
 all_words first.Refused = inr (inr (inr (inr (inr (inr (inr (inr (inr (inr (inr (inr (inr (inr (inr (inr (inl refl))))))))))))))))
 
 -- these are all the first words, made of bytes, and none begins another
-words : AreWords word_of first.Commit replies.OTHERS
+words : AreWords word_of first.Commit OTHER_REPLIES
 words = record { all = all_words; bytes = replies_are_bytes; apart = refl }
 
 -- a first word fits whatever follows, and tells what is read behind it
 pub reply_fits : Fits IsByte reply_read ReplyRule no_more
 unfolding reply_read
-reply_fits = onwards IsByte (one_of_fits word_of first.Commit replies.OTHERS words) form_fits
+reply_fits = onwards IsByte (one_of_fits word_of first.Commit OTHER_REPLIES words) form_fits

@@ -3,8 +3,8 @@ use Rattle.std.proofs.Common.{◌≡◌, ℕ, ◌≤◌, ◌<◌, List, [], refl
 use Rattle.session_text.specs.declared.limits.TheConstants.{MOST_ATTEMPTS}
 use Rattle.session_text.specs.declared.verb.Verb.{Verb}
 use Rattle.session_text.specs.declared.verb.Verb.TheVariants as verb
-use Rattle.session_text.specs.declared.verb_word.VerbWord.{VerbWord}
-use Rattle.session_text.specs.declared.verb_word.VerbWord.TheVariants as word
+use Rattle.session_text.specs.declared.words.VerbWord.{VerbWord}
+use Rattle.session_text.specs.declared.words.VerbWord.TheVariants as word
 use Rattle.session_text.specs.Lines.{Form, IsVerb}
 
 -- by the word: `try` has its number behind it, and no other word makes a try

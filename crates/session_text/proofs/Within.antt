@@ -4,8 +4,8 @@ use Rattle.std.proofs.lemmas.List.{length-append}
 use Rattle.predictive_parsing.specs.Rules.{Of}
 use Rattle.session_text.specs.declared.verb.Verb.{Verb}
 use Rattle.session_text.specs.declared.verb.Verb.TheVariants as verb
-use Rattle.session_text.specs.declared.verb_word.VerbWord.{VerbWord}
-use Rattle.session_text.specs.declared.verb_word.VerbWord.TheVariants as word
+use Rattle.session_text.specs.declared.words.VerbWord.{VerbWord}
+use Rattle.session_text.specs.declared.words.VerbWord.TheVariants as word
 use Rattle.session_text.specs.Lines.{Gap, Rest, BodyRule, NameRule, Alone, Form, VerbRule, IsVerb}
 use Rattle.session_text.specs.Bodies.{body_in, IsWithin}
 

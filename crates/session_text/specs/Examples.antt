@@ -7,7 +7,7 @@ use Rattle.predictive_parsing.specs.Choices.{closest, one_of}
 use Rattle.dtext.specs.Characters.{is_blank}
 use Rattle.dtext.specs.code.Reading.{digits, positive, natural}
 use Rattle.session_text.specs.declared.verb.Verb.TheVariants as verb
-use Rattle.session_text.specs.declared.verb_word.VerbWord.TheVariants as word_for
+use Rattle.session_text.specs.declared.words.VerbWord.TheVariants as word_for
 use Rattle.session_text.specs.Lines.{IsVerb}
 use Rattle.session_text.specs.code.Lines.{gap, solid, rest, body, name, alone, tries, at, watch, unwatch, form, line}
 

@@ -9,8 +9,8 @@ use Rattle.dtext.specs.Spellings.{NaturalRule, PositiveRule}
 use Rattle.session_text.specs.declared.limits.TheConstants.{MOST_ATTEMPTS, LARGEST, NAME_REST}
 use Rattle.session_text.specs.declared.verb.Verb.{Verb}
 use Rattle.session_text.specs.declared.verb.Verb.TheVariants as verb
-use Rattle.session_text.specs.declared.verb_word.VerbWord.{VerbWord}
-use Rattle.session_text.specs.declared.verb_word.VerbWord.TheVariants as word
+use Rattle.session_text.specs.declared.words.VerbWord.{VerbWord}
+use Rattle.session_text.specs.declared.words.VerbWord.TheVariants as word
 
 -- ---- the parts of a line
 

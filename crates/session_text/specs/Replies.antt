@@ -15,10 +15,10 @@ use Rattle.session_text.specs.declared.reply.Reply.{Reply}
 use Rattle.session_text.specs.declared.reply.Reply.TheVariants as reply
 use Rattle.session_text.specs.declared.reply.Why.{Why}
 use Rattle.session_text.specs.declared.reply.Why.TheVariants as why
-use Rattle.session_text.specs.declared.reply_word.ReplyWord.{ReplyWord}
-use Rattle.session_text.specs.declared.reply_word.ReplyWord.TheVariants as word
-use Rattle.session_text.specs.declared.why_word.WhyWord.{WhyWord}
-use Rattle.session_text.specs.declared.why_word.WhyWord.TheVariants as reason
+use Rattle.session_text.specs.declared.words.ReplyWord.{ReplyWord}
+use Rattle.session_text.specs.declared.words.ReplyWord.TheVariants as word
+use Rattle.session_text.specs.declared.words.WhyWord.{WhyWord}
+use Rattle.session_text.specs.declared.words.WhyWord.TheVariants as reason
 use Rattle.session_text.specs.Lines.{NameRule}
 use Rattle.session_text.specs.Printing.{word_of, why_of}
 

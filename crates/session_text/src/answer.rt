@@ -1,19 +1,23 @@
 //! Reading replies.
 
-ghost use Rattle.std.specs.Prelude.{◌≡◌, codes};
+ghost use Rattle.std.specs.Prelude.{◌≡◌, ◌≢◌, ◌<◌, ◌-◌, ◌^◌, ℕ, codes, length, IfOk, Ok, Err};
+ghost use Rattle.predictive_parsing.specs.Bytes.{IsByte};
+ghost use Rattle.predictive_parsing.specs.Columns.{IsColumn};
 ghost use Rattle.predictive_parsing.specs.Reads.{Reads, OnlyRefuses};
 ghost use Rattle.dtext.specs.code.Reading.{natural};
+ghost use Rattle.dtext.specs.declared.error.TextError.TheVariants.{At};
+ghost use Rattle.dtext.specs.declared.error.TextError.TheVariants as text;
+ghost use Rattle.session_text.specs.declared.reply.Reply.{Reply};
+ghost use Rattle.session_text.specs.Replies.{ReplyRule, IsReply};
 ghost use Rattle.session_text.specs.code.Replies as spec;
 
 use crate::limits::{LARGEST, LARGEST_CLIENT, LARGEST_COLUMN, LARGEST_SHARD};
 use crate::line::name;
 use crate::observation::next_obs;
 use crate::reply::{Reply, Why};
-use crate::reply_word::ReplyWord;
-use crate::why_word::WhyWord;
-use crate::{reply_word as replies, why_word as whys};
+use crate::words::{OTHER_REASONS, OTHER_REPLIES, ReplyWord, WhyWord};
 use abort_witness::Witness;
-use dtext::{next_address, next_natural, next_outcome, next_part};
+use dtext::{TextError, finish, next_address, next_natural, next_outcome, next_part};
 use plain_data::{OrNoMemory, Text};
 use predictive_parsing::{Cursor, Refused};
 use rdt_types::{Address, Outcome};
@@ -208,7 +212,7 @@ fn why_read(cursor: &mut Cursor<u8>) -> Result<Why, OrNoMemory<Refused>>
     ensures read { Reads (spec.why_read cursor.old) result cursor.new }
     ensures refusal { OnlyRefuses result }
 {
-    let word = cursor.one_of(WhyWord::Long, &whys::OTHERS)?;
+    let word = cursor.one_of(WhyWord::Long, &OTHER_REASONS)?;
     why_form(word, cursor)
 }
 
@@ -256,6 +260,18 @@ fn form(
 pub(crate) fn reply(alloc: Global, cursor: &mut Cursor<u8>) -> Result<Reply, OrNoMemory<Refused>>
     ensures { Reads (spec.reply_read cursor.old) result cursor.new }
 {
-    let word = cursor.one_of(ReplyWord::Commit, &replies::OTHERS)?;
+    let word = cursor.one_of(ReplyWord::Commit, &OTHER_REPLIES)?;
     form(alloc, word, cursor)
+}
+
+/// Reads a reply.
+pub fn read_reply(alloc: Global, bytes: &[u8]) -> Result<Reply, TextError>
+    requires { length bytes.now < 2 ^ 32 - 1 }
+    ensures read { IfOk result (λ reply. IsReply bytes.now reply) }
+    ensures spellings { (reply : Reply) → IsReply bytes.now reply → result ≢ Err text.NoMemory → result ≡ Ok reply }
+    ensures refused { (column : ℕ) → result ≡ Err (At column) → IsColumn IsByte ReplyRule bytes.now column }
+{
+    let mut cursor = Cursor::new(bytes);
+    let found = reply(alloc, &mut cursor);
+    finish(found, &cursor, bytes.len())
 }

@@ -14,20 +14,18 @@ mod limits;
 mod line;
 mod observation;
 mod print;
-mod read;
 mod reply;
-mod reply_word;
 mod verb;
-mod verb_word;
-mod why_word;
+mod words;
 
+pub use answer::read_reply;
 pub use laws::{
     columns_pin_answers, printed_replies_read_back, readers_are_rules, texts_have_one_value,
 };
 pub use limits::{
     LARGEST, LARGEST_CLIENT, LARGEST_COLUMN, LARGEST_SHARD, MOST_ATTEMPTS, NAME_REST,
 };
+pub use line::read_verb;
 pub use print::{print_reply, push_reply};
-pub use read::{read_reply, read_verb};
 pub use reply::{Reply, Why};
 pub use verb::{Verb, VerbError};

@@ -1,16 +1,21 @@
 //! Reading lines.
 
-ghost use Rattle.std.specs.Prelude.{◌≡◌, ◌∷◌, Ok, IfOk};
-ghost use Rattle.predictive_parsing.specs.Reading.{passing, run, run_up_to};
+ghost use Rattle.std.specs.Prelude.{◌≡◌, ◌≢◌, ◌∷◌, ℕ, Ok, Err, IfOk};
+ghost use Rattle.plain_data.specs.declared.or_no_memory.OrNoMemory.TheVariants as stop;
+ghost use Rattle.predictive_parsing.specs.Reading as reading;
+ghost use Rattle.predictive_parsing.specs.Reading.{passing, run, run_up_to, whole_of};
 ghost use Rattle.predictive_parsing.specs.Reads.{Reads, OnlyRefuses};
 ghost use Rattle.dtext.specs.Characters.{is_blank, is_letter, is_word};
 ghost use Rattle.dtext.specs.code.Reading.{positive};
-ghost use Rattle.session_text.specs.Lines.{is_solid, is_any};
+ghost use Rattle.session_text.specs.declared.verb.Verb.{Verb};
+ghost use Rattle.session_text.specs.declared.verb.VerbError.TheVariants.{BadVerb, NoMemory};
+ghost use Rattle.session_text.specs.Answers.{verb_answer};
+ghost use Rattle.session_text.specs.Lines.{IsVerb, is_solid, is_any};
 ghost use Rattle.session_text.specs.code.Lines as spec;
 
 use crate::limits::{LARGEST, MOST_ATTEMPTS, NAME_REST};
-use crate::verb::Verb;
-use crate::verb_word::{OTHERS, VerbWord};
+use crate::verb::{Verb, VerbError};
+use crate::words::{OTHER_VERBS, VerbWord};
 use dtext::{is_blank, is_letter, is_word, next_natural, next_positive};
 use plain_data::{OrNoMemory, Text};
 use predictive_parsing::{Cursor, Refused};
@@ -72,23 +77,15 @@ fn text_of(alloc: Global, first: u8, others: &[u8]) -> Result<Text, AllocError>
     Ok(Text::from_vec(bytes))
 }
 
-/// Some bytes, the first of which is no blank.
-#[tactic(auto, unfolding(crate::specs::code::Lines::solid))]
-fn solid(alloc: Global, cursor: &mut Cursor<u8>) -> Result<Text, OrNoMemory<Refused>>
-    ensures { Reads (spec.solid cursor.old) result cursor.new }
-{
-    let first = cursor.take(|byte| no_blank(*byte))?;
-    let others = all(cursor);
-    Ok(text_of(alloc, first, others)?)
-}
-
 /// The rest of a line.
-#[tactic(auto, unfolding(crate::specs::code::Lines::rest))]
+#[tactic(auto, unfolding(crate::specs::code::Lines::rest, crate::specs::code::Lines::solid))]
 fn rest(alloc: Global, cursor: &mut Cursor<u8>) -> Result<Text, OrNoMemory<Refused>>
     ensures { Reads (spec.rest cursor.old) result cursor.new }
 {
     if cursor.sees(|byte| !is_blank(*byte)) {
-        solid(alloc, cursor)
+        let first = cursor.take(|byte| no_blank(*byte))?;
+        let others = all(cursor);
+        Ok(text_of(alloc, first, others)?)
     } else {
         Ok(Text::new(alloc))
     }
@@ -204,10 +201,42 @@ fn form(alloc: Global, word: VerbWord, cursor: &mut Cursor<u8>) -> Result<Verb, 
 
 /// A line.
 #[tactic(auto, unfolding(crate::specs::code::Lines::line))]
-pub(crate) fn line(alloc: Global, cursor: &mut Cursor<u8>) -> Result<Verb, OrNoMemory<Refused>>
+fn line(alloc: Global, cursor: &mut Cursor<u8>) -> Result<Verb, OrNoMemory<Refused>>
     ensures { Reads (spec.line cursor.old) result cursor.new }
 {
     blanks(cursor);
-    let word = cursor.one_of(VerbWord::Do, &OTHERS)?;
+    let word = cursor.one_of(VerbWord::Do, &OTHER_VERBS)?;
     form(alloc, word, cursor)
+}
+
+/// What was read, where nothing is left behind it.
+fn finish_line(
+    found: Result<Verb, OrNoMemory<Refused>>,
+    cursor: &Cursor<u8>,
+) -> Result<Verb, VerbError>
+    ensures answer { (outcome : reading.Outcome ℕ Verb) → Reads outcome found cursor.now → found ≢ Err stop.NoMemory → result ≡ verb_answer (whole_of outcome) }
+    ensures memory { found ≡ Err stop.NoMemory → result ≡ Err NoMemory }
+{
+    match found {
+        Ok(verb) => {
+            if cursor.len() == 0 {
+                Ok(verb)
+            } else {
+                Err(VerbError::BadVerb)
+            }
+        }
+        Err(OrNoMemory::Cause(Refused)) => Err(VerbError::BadVerb),
+        Err(OrNoMemory::NoMemory) => Err(VerbError::NoMemory),
+    }
+}
+
+/// Reads a line: what it asks for.
+pub fn read_verb(alloc: Global, bytes: &[u8]) -> Result<Verb, VerbError>
+    ensures read { IfOk result (λ verb. IsVerb bytes.now verb) }
+    ensures forms { (verb : Verb) → IsVerb bytes.now verb → result ≢ Err NoMemory → result ≡ Ok verb }
+    ensures bad { result ≡ Err BadVerb → (verb : Verb) → IsVerb bytes.now verb → ⊥ }
+{
+    let mut cursor = Cursor::new(bytes);
+    let found = line(alloc, &mut cursor);
+    finish_line(found, &cursor)
 }

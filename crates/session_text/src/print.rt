@@ -7,8 +7,7 @@ ghost use Rattle.rdt_types.specs.Printed.{printed_text, printed_address};
 ghost use Rattle.session_text.specs.Printing as spec;
 
 use crate::reply::{Reply, Why};
-use crate::reply_word::ReplyWord;
-use crate::why_word::WhyWord;
+use crate::words::{ReplyWord, WhyWord};
 use abort_witness::Witness;
 use conflict_table::Obs;
 use dtext::{push_address, push_natural, push_number, push_outcome, push_part, push_text};
@@ -116,12 +115,18 @@ fn push_witness(out: &mut Text, witness: &Witness) -> Result<(), AllocError>
     push_clash(out, witness)
 }
 
-/// Adds a number behind a space, and an outcome behind another.
-fn push_ended(out: &mut Text, number: u64, outcome: &Outcome) -> Result<(), AllocError>
-    ensures ok { OnOk result (out.new ≡ out.old
-        ++ (codes " " ++ (decimal number ++ (codes " " ++ printed_outcome outcome.now)))) }
+/// Adds some bytes, a number behind a space, and an outcome behind another.
+fn push_result(
+    out: &mut Text,
+    head: &[u8],
+    number: u64,
+    outcome: &Outcome,
+) -> Result<(), AllocError>
+    ensures ok { OnOk result (out.new ≡ out.old ++ (head.now
+        ++ (codes " " ++ (decimal number ++ (codes " " ++ printed_outcome outcome.now))))) }
     ensures grows { Grows out.old out.new }
 {
+    out.extend_from_slice(head)?;
     push_counted(out, b" ", number)?;
     out.extend_from_slice(b" ")?;
     push_outcome(out, outcome)
@@ -152,21 +157,6 @@ fn push_both(
     push_counted(out, between, other)
 }
 
-/// Adds a first word and a number, and an outcome behind them.
-fn push_result(
-    out: &mut Text,
-    word: ReplyWord,
-    number: u64,
-    outcome: &Outcome,
-) -> Result<(), AllocError>
-    ensures ok { OnOk result (out.new ≡ out.old
-        ++ spec.worded word (decimal number ++ (codes " " ++ printed_outcome outcome.now))) }
-    ensures grows { Grows out.old out.new }
-{
-    out.extend_from_slice(word.bytes())?;
-    push_ended(out, number, outcome)
-}
-
 fn push_read(out: &mut Text, address: &Address, base: u64) -> Result<(), AllocError>
     ensures ok { OnOk result (out.new ≡ out.old
         ++ spec.worded ReplyWord.Read
@@ -187,8 +177,7 @@ fn push_ran(out: &mut Text, name: &Text, number: u64, outcome: &Outcome) -> Resu
 {
     out.extend_from_slice(ReplyWord::Run.bytes())?;
     out.extend_from_slice(b" ")?;
-    out.extend_from_slice(name.as_slice())?;
-    push_ended(out, number, outcome)
+    push_result(out, name.as_slice(), number, outcome)
 }
 
 fn push_abort(out: &mut Text, witness: &Witness) -> Result<(), AllocError>
@@ -217,7 +206,7 @@ pub fn push_reply(out: &mut Text, reply: &Reply) -> Result<(), AllocError>
     ensures grows { Grows out.old out.new }
 {
     match reply {
-        Reply::Commit(n, outcome) => push_result(out, ReplyWord::Commit, *n, outcome),
+        Reply::Commit(n, outcome) => push_result(out, ReplyWord::Commit.bytes(), *n, outcome),
         Reply::Abort(witness) => push_abort(out, witness),
         Reply::Read(address, base) => push_read(out, address, *base),
         Reply::Prepared(shard, front) => {
@@ -228,7 +217,7 @@ pub fn push_reply(out: &mut Text, reply: &Reply) -> Result<(), AllocError>
             let shard = u64::from(*shard);
             push_both(out, ReplyWord::Follow, shard, b" front ", *front)
         }
-        Reply::At(n, outcome) => push_result(out, ReplyWord::At, *n, outcome),
+        Reply::At(n, outcome) => push_result(out, ReplyWord::At.bytes(), *n, outcome),
         Reply::Ran(name, n, outcome) => push_ran(out, name, *n, outcome),
         Reply::Current(n) => push_numbered(out, ReplyWord::Current, *n),
         Reply::Idle => out.extend_from_slice(ReplyWord::Idle.bytes()),

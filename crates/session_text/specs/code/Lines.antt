@@ -7,11 +7,11 @@ use Rattle.predictive_parsing.specs.Choices.{one_of}
 use Rattle.dtext.specs.Characters.{is_blank, is_letter, is_word}
 use Rattle.dtext.specs.code.Reading.{natural, positive}
 use Rattle.session_text.specs.declared.limits.TheConstants.{MOST_ATTEMPTS, LARGEST, NAME_REST}
-use Rattle.session_text.specs.declared.verb_word.TheConstants.{OTHERS}
+use Rattle.session_text.specs.declared.words.TheConstants.{OTHER_VERBS}
 use Rattle.session_text.specs.declared.verb.Verb.{Verb}
 use Rattle.session_text.specs.declared.verb.Verb.TheVariants as verb
-use Rattle.session_text.specs.declared.verb_word.VerbWord.{VerbWord}
-use Rattle.session_text.specs.declared.verb_word.VerbWord.TheVariants as word
+use Rattle.session_text.specs.declared.words.VerbWord.{VerbWord}
+use Rattle.session_text.specs.declared.words.VerbWord.TheVariants as word
 use Rattle.session_text.specs.Lines.{is_solid, is_any, word_of}
 
 -- blanks, one at least
@@ -98,5 +98,5 @@ form word.Unwatch = unwatch
 unfoldable pub line : Reader ℕ Verb
 line = do
   _ ← run is_blank
-  word ← one_of word_of word.Do OTHERS
+  word ← one_of word_of word.Do OTHER_VERBS
   form word

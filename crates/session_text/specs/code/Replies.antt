@@ -18,12 +18,11 @@ use Rattle.session_text.specs.declared.reply.Reply.{Reply}
 use Rattle.session_text.specs.declared.reply.Reply.TheVariants as reply
 use Rattle.session_text.specs.declared.reply.Why.{Why}
 use Rattle.session_text.specs.declared.reply.Why.TheVariants as why
-use Rattle.session_text.specs.declared.reply_word.ReplyWord.{ReplyWord}
-use Rattle.session_text.specs.declared.reply_word.ReplyWord.TheVariants as first
-use Rattle.session_text.specs.declared.reply_word.TheConstants as replies
-use Rattle.session_text.specs.declared.why_word.WhyWord.{WhyWord}
-use Rattle.session_text.specs.declared.why_word.WhyWord.TheVariants as reason
-use Rattle.session_text.specs.declared.why_word.TheConstants as whys
+use Rattle.session_text.specs.declared.words.ReplyWord.{ReplyWord}
+use Rattle.session_text.specs.declared.words.ReplyWord.TheVariants as first
+use Rattle.session_text.specs.declared.words.TheConstants.{OTHER_REPLIES, OTHER_REASONS}
+use Rattle.session_text.specs.declared.words.WhyWord.{WhyWord}
+use Rattle.session_text.specs.declared.words.WhyWord.TheVariants as reason
 use Rattle.session_text.specs.Printing.{word_of, why_of}
 use Rattle.session_text.specs.code.Lines.{name}
 
@@ -94,7 +93,7 @@ why_form reason.NoAttempt = pure why.NoAttempt
 -- why a line is refused
 unfoldable pub why_read : Reader ℕ Why
 why_read = do
-  reason ← one_of why_of reason.Long whys.OTHERS
+  reason ← one_of why_of reason.Long OTHER_REASONS
   why_form reason
 
 -- an address behind a space
@@ -201,5 +200,5 @@ form first.Refused = refused
 -- a reply
 unfoldable pub reply_read : Reader ℕ Reply
 reply_read = do
-  w ← one_of word_of first.Commit replies.OTHERS
+  w ← one_of word_of first.Commit OTHER_REPLIES
   form w

@@ -1,12 +1,12 @@
 -- The words of lines and replies are bytes: a line a word.
 use Rattle.std.specs.Prelude.{◌≡◌, true, refl}
 use Rattle.predictive_parsing.specs.Choices.{are_bytes}
-use Rattle.session_text.specs.declared.verb_word.VerbWord.{VerbWord}
-use Rattle.session_text.specs.declared.verb_word.VerbWord.TheVariants as verb
-use Rattle.session_text.specs.declared.reply_word.ReplyWord.{ReplyWord}
-use Rattle.session_text.specs.declared.reply_word.ReplyWord.TheVariants as reply
-use Rattle.session_text.specs.declared.why_word.WhyWord.{WhyWord}
-use Rattle.session_text.specs.declared.why_word.WhyWord.TheVariants as why
+use Rattle.session_text.specs.declared.words.VerbWord.{VerbWord}
+use Rattle.session_text.specs.declared.words.VerbWord.TheVariants as verb
+use Rattle.session_text.specs.declared.words.ReplyWord.{ReplyWord}
+use Rattle.session_text.specs.declared.words.ReplyWord.TheVariants as reply
+use Rattle.session_text.specs.declared.words.WhyWord.{WhyWord}
+use Rattle.session_text.specs.declared.words.WhyWord.TheVariants as why
 use Rattle.session_text.specs.Lines as line
 use Rattle.session_text.specs.Printing.{word_of, why_of}
 

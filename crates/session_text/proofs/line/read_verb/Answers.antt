@@ -1,6 +1,6 @@
 use Rattle.session_text.specs.code.Lines as spec
 use Rattle.session_text.proofs.Verbs.{read_is, forms_are, bad_is}
-use Rattle.session_text.proofs.read.read_verb.Goals as goal
+use Rattle.session_text.proofs.line.read_verb.Goals as goal
 
 pub returns : goal.returns
 returns c =

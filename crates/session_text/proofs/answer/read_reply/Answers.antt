@@ -4,7 +4,7 @@ use Rattle.dtext.proofs.Wholes.{promised}
 use Rattle.session_text.specs.Replies.{ReplyRule}
 use Rattle.session_text.specs.code.Replies as spec
 use Rattle.session_text.proofs.ReplyFits.{reply_fits}
-use Rattle.session_text.proofs.read.read_reply.Goals as goal
+use Rattle.session_text.proofs.answer.read_reply.Goals as goal
 
 pub returns : goal.returns
 returns c =
