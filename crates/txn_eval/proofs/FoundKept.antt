@@ -2,7 +2,7 @@
 use Rattle.std.proofs.Common.{◌≡◌, ◌<◌, ℕ, Bool, true, false, ◌&&◌, ◌||◌, cond, List, [], ◌∷◌, ◌++◌, take, drop, length, refl, ap, sym, ◌∙◌}
 use Rattle.std.proofs.Common.{◌+◌, suc, zero, Option, Some, None, unwrap_or, slice_get, ◌⊎◌, inl, inr, arith, Result, Ok, Err, OnOk, OnErr}
 use Rattle.std.proofs.lemmas.Cmp.{eq_by_cmp_equiv}
-use Rattle.std.proofs.lemmas.List.{take-append-drop, take_all, length-append}
+use Rattle.std.proofs.lemmas.List.{take-append-drop, length-append}
 use Rattle.std.proofs.lemmas.Option.{slice_get_within}
 use Rattle.std.proofs.lemmas.List.Folds.{list_any-append}
 use Rattle.std.proofs.Math.Seq.{take-append_seam}
@@ -158,16 +158,18 @@ module _ (n : ℕ) (xs : List Seen) (s : Seen) where
   listed_parts : is_listed s xs ≡ is_listed s (take n xs) || is_listed s (drop n xs)
   listed_parts = ap (is_listed s) (sym (take-append-drop n xs)) ∙ list_any-append (λ t. seen_eq.ghosts.eq t s) (take n xs) (drop n xs)
 
-  -- what is among the first ones isn't listed again
-  pub seen_first : is_listed s (take n xs) ≡ true → xs ≡ with_seen xs s
-  seen_first found = sym (ap (λ b. cond b xs (xs ++ s ∷ [])) (listed_parts ∙ ap (λ b. b || is_listed s (drop n xs)) found))
+  -- what is listed isn't listed again
+  pub seen_again : is_listed s xs ≡ true → xs ≡ with_seen xs s
+  seen_again found = sym (ap (λ b. cond b xs (xs ++ s ∷ [])) found)
 
-  -- few are all looked through, so one that isn't found is listed, if there is memory
-  pub seen_few : {E : Type 0} (r : Result (Unit {0}) E) (ys : List Seen) → length xs < n → is_listed s (take n xs) ≡ false
-      → OnOk r (ys ≡ xs ++ s ∷ []) → OnOk r (ys ≡ with_seen xs s)
-  seen_few (Ok x) ys few missed pushed =
-      pushed ∙ sym (ap (λ b. cond b xs (xs ++ s ∷ [])) (ap (is_listed s) (sym (take_all n xs (omega (arith, few)))) ∙ missed))
-  seen_few (Err e) ys few missed pushed = tt
+  -- so it is with what is among the first ones
+  pub seen_first : is_listed s (take n xs) ≡ true → xs ≡ with_seen xs s
+  seen_first found = seen_again (listed_parts ∙ ap (λ b. b || is_listed s (drop n xs)) found)
+
+  -- one that isn't listed is, if there is memory
+  pub seen_few : {E : Type 0} (r : Result (Unit {0}) E) (ys : List Seen) → is_listed s xs ≡ false → OnOk r (ys ≡ xs ++ s ∷ []) → OnOk r (ys ≡ with_seen xs s)
+  seen_few (Ok x) ys missed pushed = pushed ∙ sym (ap (λ b. cond b xs (xs ++ s ∷ [])) missed)
+  seen_few (Err e) ys missed pushed = tt
 
   module _ (places : BTreeMap SeenKey ℕ) (key : SeenKey) (found : AreFound n places xs) (key_is : key ≡ key_of s) where
     -- one that isn't found is nowhere behind the first ones

@@ -33,11 +33,11 @@ use Rattle.txn_lang.specs.Rules.{Expression, of_node, of_expr, of_operand, of_st
 use Rattle.txn_lang.proofs.Walk.{deep}
 use Rattle.txn_eval.specs.declared.kept.Kept.{Kept}
 use Rattle.txn_eval.specs.declared.pause.Pause.{Pause}
-use Rattle.txn_eval.specs.declared.trail.Turns.{Turns}
-use Rattle.txn_eval.specs.declared.trail.Around.{Around}
-use Rattle.txn_eval.specs.declared.trail.Around.TheVariants as around
-use Rattle.txn_eval.specs.declared.trail.Frame.{Frame}
-use Rattle.txn_eval.specs.declared.trail.Over.{Over}
+use Rattle.txn_eval.specs.declared.pause.Turns.{Turns}
+use Rattle.txn_eval.specs.declared.pause.Around.{Around}
+use Rattle.txn_eval.specs.declared.pause.Around.TheVariants as around
+use Rattle.txn_eval.specs.declared.pause.Frame.{Frame}
+use Rattle.txn_eval.specs.declared.pause.Over.{Over}
 use Rattle.txn_lang.specs.Execution.{Ran, need, begun}
 use Rattle.txn_eval.specs.Running.{values_of}
 use Rattle.txn_eval.specs.Pausing.{IsPauseOf, first_rest, stmt_rest, texts_over}
@@ -289,6 +289,10 @@ pub needed : {A : Type 0} (e : Stop) (a : Address) (u : Step Kept A) (p : Progre
     → u ≡ stopped (stop.Need a) p
 needed e a u p is stops =
     stops (λ none. let clash : stop.Need a ≡ stop.NoMemory = sym is ∙ none in absurd (cc)) ∙ ap (λ (r : Stop). stopped r p) is
+
+-- what a step does behind its tick
+pub behind_tick : {A : Type 0} (step : Stepping Kept A) (p q : Progress Kept) (u : Step Kept A) → charge 1 p ≡ gives tt q → step q ≡ u → charged step p ≡ u
+behind_tick step p q u tick does = ap (λ o. and_then o (λ _. step)) tick ∙ does
 
 -- where the expression behind a tick needs a value, what it did is taken back
 pub head_needs : (s : PartialState) (e : Expr) (names : Names) (a : Address) (p q r : Progress Kept)
@@ -796,7 +800,7 @@ first_is stmts snaps = record { comes = λ t more. sym (rest_all (kept t) stmts 
 
 module _ (stmts : List Stmt) (snaps : List (Address × Snap)) where
   -- what all statements do from the beginning of a run
-  abbrev all : Steps
+  abbrev pub all : Steps
   all t = all_steps (map (stmt_run (kept t)) stmts) [] (begun nothing_kept)
 
   -- what is told of what is left is told of all

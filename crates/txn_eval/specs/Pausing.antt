@@ -14,12 +14,12 @@ use Rattle.txn_lang.specs.Rules.{Statement, all_steps, turns, stmt_run}
 use Rattle.txn_lang.specs.Execution.{begun}
 use Rattle.txn_lang.specs.Observed.{Extends}
 use Rattle.txn_eval.specs.declared.kept.Kept.{Kept}
-use Rattle.txn_eval.specs.declared.trail.Over.{Over}
-use Rattle.txn_eval.specs.declared.trail.Over.TheVariants as over
-use Rattle.txn_eval.specs.declared.trail.Turns.{Turns}
-use Rattle.txn_eval.specs.declared.trail.Around.{Around}
-use Rattle.txn_eval.specs.declared.trail.Around.TheVariants as around
-use Rattle.txn_eval.specs.declared.trail.Frame.{Frame}
+use Rattle.txn_eval.specs.declared.pause.Over.{Over}
+use Rattle.txn_eval.specs.declared.pause.Over.TheVariants as over
+use Rattle.txn_eval.specs.declared.pause.Turns.{Turns}
+use Rattle.txn_eval.specs.declared.pause.Around.{Around}
+use Rattle.txn_eval.specs.declared.pause.Around.TheVariants as around
+use Rattle.txn_eval.specs.declared.pause.Frame.{Frame}
 use Rattle.txn_eval.specs.declared.pause.Pause.{Pause}
 use Rattle.txn_eval.specs.code.Buffering.{kept, nothing_kept}
 use Rattle.txn_eval.specs.Running.{values_of}

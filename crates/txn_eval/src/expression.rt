@@ -5,25 +5,24 @@ ghost use Rattle.txn_lang.specs.Items as spec;
 ghost use Rattle.txn_lang.specs.Steps as steps;
 ghost use Rattle.txn_lang.specs.Rules as rules;
 ghost use Rattle.txn_eval.specs.code.Answers.{Answers, Leaves};
-ghost use Rattle.txn_eval.specs.code.Forms.{charged, expr_here, exprs_here, link_here, chain_here, read_here, answered_here};
+ghost use Rattle.txn_eval.specs.code.Forms.{on, charged, expr_here, exprs_here, link_here, chain_here, read_here, answered_here};
 ghost use Rattle.txn_eval.specs.code.Forms.{texts_here, length_here, str_here, negative_here, not_here, beside_here};
 
-use crate::charging::charge;
+use crate::charging::{charge, sized};
 use crate::here::Here;
 use crate::items::{
-    address_of, bool_in, compares, decides, elements_in, int_in, into_text, joined, length_item,
-    negated, shown_int, texts_of,
+    bool_in, compares, decides, elements_in, int_in, into_text, joined, length_item, negated,
+    read_of, shown_int, texts_of,
 };
 use crate::kept::Kept;
 use crate::lent::{Lent, lend, lend_named};
-use crate::memory::read_at;
 use crate::naming::named;
-use crate::sizes::{fits, sized};
-use crate::words::read_of;
+use conflict_table::ReadOp;
 use plain_data::Text;
 use rdt_types::{Address, Item, ItemList};
-use txn_lang::{Progress, Stop};
+use txn_lang::{Progress, Seen, Stop, TEXT_LIMIT};
 use txn_trees::{Expr, ExprNode, Operand, ReadWord, Relation};
+use write_buffer::Asked;
 
 /// Does one further operand of a chain, unless the item so far decides.
 #[cycle(value)]
@@ -77,6 +76,31 @@ pub(crate) fn values_of(
     Ok(items)
 }
 
+/// What a read of an address answers.
+fn read_at(
+    here: &Here<'_>,
+    run: &mut Progress<Kept>,
+    read: &ReadOp,
+    address: Address,
+) -> Result<Item, Stop>
+    ensures { Answers result run.new (steps.read_at (on here.now.snaps.now) read.now address run.old) }
+{
+    let value = match here.snaps.get(&address) {
+        Some(snap) => Some(&snap.value),
+        None => None,
+    };
+    match run.memory.buffer.ask(here.alloc, &address, read, value)? {
+        Asked::Need => Err(Stop::Need(address)),
+        Asked::Answered(item, seen) => match seen {
+            None => Ok(item),
+            Some(obs) => {
+                run.memory.observations.note(Seen { address, obs })?;
+                Ok(item)
+            }
+        },
+    }
+}
+
 /// What a read answers, charged and sized.
 fn read(
     here: &Here<'_>,
@@ -88,7 +112,7 @@ fn read(
     ensures { Answers result run.new (answered_here here.now address word arguments.now run.old) }
 {
     let read = read_of(here.alloc, address.kind, word, arguments)?;
-    let item = read_at(here.alloc, here.snaps, run, &read, address)?;
+    let item = read_at(here, run, &read, address)?;
     charge(run, elements_in(&item))?;
     sized(run, item)
 }
@@ -147,7 +171,11 @@ fn literal(run: &mut Progress<Kept>, text: &Text) -> Result<(), Stop>
     ensures { Leaves result (Item.Text text.now) run.new (charged (rules.sized (Item.Text text.now)) run.old) }
 {
     charge(run, 1)?;
-    fits(run, text)
+    if text.len() > TEXT_LIMIT {
+        Err(Stop::Big)
+    } else {
+        Ok(())
+    }
 }
 
 /// What a literal text gives.
@@ -311,7 +339,10 @@ pub(crate) fn value_of(here: &Here<'_>, run: &mut Progress<Kept>, expr: &Expr) -
         ExprNode::Read(kind, key, word, arguments) => {
             charge(run, 1)?;
             let key = key_of(here, run, key.get())?;
-            let address = address_of(here.alloc, *kind, key);
+            let address = Address {
+                kind: *kind,
+                key: into_text(here.alloc, key),
+            };
             read_given(here, run, address, *word, arguments.as_slice())
         }
     }

@@ -3,9 +3,7 @@
 ghost use Rattle.std.specs.Prelude.{◌≡◌, ◌∷◌, false, [], map, length, OnOk};
 ghost use Rattle.txn_lang.specs.Rules as rules;
 ghost use Rattle.txn_eval.specs.Running.{values_of};
-ghost use Rattle.txn_eval.specs.code.Answers.{Answers};
 ghost use Rattle.txn_eval.specs.code.Buffering.{kept};
-ghost use Rattle.txn_eval.specs.code.Forms.{charged, expr_here};
 ghost use Rattle.txn_eval.specs.code.Pauses.{holds_block, taken_back, Goes, GoesKnown, GoesPlainly, GoesThrough, TakesTurns, GivesHere, GivesOverHere};
 ghost use Rattle.txn_eval.specs.code.Pauses.{Enters, OnGoing, inside};
 ghost use Rattle.txn_eval.specs.code.Pauses.{stmts_left, stmt_left, block_left, turn_left, turns_left};
@@ -17,9 +15,8 @@ use crate::here::{Here, Known};
 use crate::items::{bool_in, into_texts};
 use crate::kept::Kept;
 use crate::naming::text_over;
-use crate::pause::Pause;
+use crate::pause::{Around, Frame, Over, Pause, Trail, Turns};
 use crate::statement::simple;
-use crate::trail::{Around, Frame, Over, Turns};
 use plain_data::Text;
 use rdt_types::{Address, Item};
 use txn_lang::{Progress, Stop};
@@ -33,21 +30,15 @@ fn take_back(run: &mut Progress<Kept>, ticks: u64, count: usize)
     run.memory.observations.cut(count);
 }
 
-/// What an expression gives, behind the tick of its statement.
-fn charged_value(here: &Here<'_>, run: &mut Progress<Kept>, expr: &Expr) -> Result<Item, Stop>
-    ensures { Answers result run.new (charged (expr_here here.now expr.now) run.old) }
-{
-    charge(run, 1)?;
-    value_of(here, run, expr)
-}
-
-/// The same. Where it needs a value, what it has charged and observed is taken back.
+/// What an expression gives, behind the tick of its statement. Where it needs a value, what it has charged and observed is taken
+/// back.
 fn head(here: &Here<'_>, run: &mut Progress<Kept>, expr: &Expr) -> Result<Item, Stop>
     ensures { GivesHere here.now result run.new run.old expr.now }
 {
     let ticks = run.ticks;
     let count = run.memory.observations.len();
-    match charged_value(here, run, expr) {
+    charge(run, 1)?;
+    match value_of(here, run, expr) {
         Ok(item) => Ok(item),
         Err(stop) => match stop {
             Stop::Need(address) => {
@@ -312,12 +303,20 @@ fn fresh(known: &Known<'_>, pause: &mut Pause, stmt: &Stmt) -> Result<(), Stop>
             };
             let item = head(&here, &mut pause.run, expr)?;
             if bool_in(&item) {
-                let frame = Frame::first(Around::Then, outside);
+                let frame = Frame {
+                    around: Around::Then,
+                    outside,
+                    at: 0,
+                };
                 branch(known, pause, frame, yes.as_slice())
             } else {
                 match no {
                     Some(no) => {
-                        let frame = Frame::first(Around::Else, outside);
+                        let frame = Frame {
+                            around: Around::Else,
+                            outside,
+                            at: 0,
+                        };
                         branch(known, pause, frame, no.as_slice())
                     }
                     None => Ok(()),
@@ -361,6 +360,6 @@ pub(crate) fn go_through(known: &Known<'_>, pause: &mut Pause, stmts: &[Stmt]) -
         step(known, pause, stmt)?;
         pause.at += 1;
     }
-    pause.trail.clear();
+    pause.trail = Trail::new(known.alloc);
     Ok(())
 }

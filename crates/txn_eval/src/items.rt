@@ -1,16 +1,16 @@
-//! What operators mean on items.
+//! What operators mean on items, and the operations that words name with them.
 
 ghost use Rattle.std.specs.Prelude.{◌≡◌, ◌≤◌, ◌^◌, IfOk, OnErr, map, pos};
 ghost use Rattle.std.specs.Fmt.{signed_decimal};
 ghost use Rattle.txn_lang.specs.Items as spec;
-ghost use Rattle.txn_lang.specs.Rules as rules;
 ghost use Rattle.txn_eval.specs.code.Lending.{shown};
 
 use crate::lent::Lent;
+use conflict_table::ReadOp;
 use plain_data::Text;
-use rdt_types::{Address, Item, ItemList, Kind, TextList};
+use rdt_types::{Item, ItemList, Kind, TextList, WriteOp};
 use std::alloc::{AllocError, Global};
-use txn_trees::{Operator, Relation};
+use txn_trees::{Operator, ReadWord, Relation, WriteWord};
 
 pub(crate) fn int_in(item: &Item) -> i64
     ensures { result ≡ spec.int_in item.now }
@@ -37,16 +37,6 @@ pub(crate) fn into_text(alloc: Global, item: Item) -> Text
     match item {
         Item::Text(text) => text,
         _ => Text::new(alloc),
-    }
-}
-
-/// The address of a kind and a key, which is moved into it.
-pub(crate) fn address_of(alloc: Global, kind: Kind, key: Item) -> Address
-    ensures { result ≡ rules.address_of kind key }
-{
-    Address {
-        kind,
-        key: into_text(alloc, key),
     }
 }
 
@@ -185,4 +175,119 @@ pub(crate) fn texts_of(alloc: Global, items: ItemList) -> Result<TextList, Alloc
         texts.push(into_text(alloc, item))?;
     }
     Ok(texts)
+}
+
+/// The first text, copied.
+fn first_text(alloc: Global, items: &[Item]) -> Result<Text, AllocError>
+    ensures { IfOk result (λ t. t ≡ spec.first_text items.now) }
+{
+    match items {
+        [Item::Text(text), ..] => text.clone(),
+        _ => Ok(Text::new(alloc)),
+    }
+}
+
+fn first_int(items: &[Item]) -> i64
+    ensures { result ≡ spec.first_int items.now }
+{
+    match items {
+        [item, ..] => int_in(item),
+        _ => 0,
+    }
+}
+
+/// The read that a word of a kind names, with its arguments.
+pub(crate) fn read_of(
+    alloc: Global,
+    kind: Kind,
+    word: ReadWord,
+    items: &[Item],
+) -> Result<ReadOp, AllocError>
+    ensures { IfOk result (λ r. r ≡ spec.read_of kind word items.now) }
+{
+    Ok(match (kind, word) {
+        (Kind::Set, ReadWord::Has) => ReadOp::SetHas(first_text(alloc, items)?),
+        (Kind::Set, _) => ReadOp::SetAll,
+        (Kind::Hash, ReadWord::Has) => ReadOp::HashHas(first_text(alloc, items)?),
+        (Kind::Hash, ReadWord::Get) => ReadOp::HashGet(first_text(alloc, items)?),
+        (Kind::Hash, _) => ReadOp::HashFields,
+        (Kind::List, ReadWord::At) => ReadOp::ListAt(first_int(items)),
+        (Kind::List, _) => ReadOp::ListAll,
+        (Kind::Peak, ReadWord::Over) => ReadOp::PeakOver(first_int(items)),
+        (Kind::Bool | Kind::Counter | Kind::Text | Kind::Peak, _) => ReadOp::Get,
+    })
+}
+
+/// The write of a counter.
+fn counter_write(word: WriteWord, n: i64) -> Option<WriteOp>
+    ensures { result ≡ spec.counter_write word n }
+{
+    match word {
+        WriteWord::Put => Some(WriteOp::PutCounter(n)),
+        WriteWord::Add => Some(WriteOp::AddCounter(n)),
+        _ => None,
+    }
+}
+
+/// The write of a set, a hash or a list with one text.
+fn text_write(kind: Kind, word: WriteWord, text: Text) -> Option<WriteOp>
+    ensures { result ≡ spec.text_write kind word text }
+{
+    match (kind, word) {
+        (Kind::Set, WriteWord::Add) => Some(WriteOp::SetAdd(text)),
+        (Kind::Set, WriteWord::Remove) => Some(WriteOp::SetRemove(text)),
+        (Kind::Hash, WriteWord::Remove) => Some(WriteOp::HashRemove(text)),
+        (Kind::List, WriteWord::Push) => Some(WriteOp::ListPush(text)),
+        (Kind::List, WriteWord::Remove) => Some(WriteOp::ListRemove(text)),
+        _ => None,
+    }
+}
+
+fn clear_of(kind: Kind) -> Option<WriteOp>
+    ensures { result ≡ spec.clear_of kind }
+{
+    match kind {
+        Kind::Set => Some(WriteOp::SetClear),
+        Kind::Hash => Some(WriteOp::HashClear),
+        Kind::List => Some(WriteOp::ListClear),
+        _ => None,
+    }
+}
+
+/// The write with two arguments, which a hash alone has.
+fn pair_write(kind: Kind, first: Text, second: Text) -> Option<WriteOp>
+    ensures { result ≡ spec.pair_write kind first second }
+{
+    match kind {
+        Kind::Hash => Some(WriteOp::HashPut(first, second)),
+        _ => None,
+    }
+}
+
+/// What a word of a kind writes, with its arguments.
+pub(crate) fn write_of(
+    alloc: Global,
+    kind: Kind,
+    word: WriteWord,
+    items: &[Item],
+) -> Result<Option<WriteOp>, AllocError>
+    ensures { IfOk result (λ o. o ≡ spec.write_of kind word items.now) }
+{
+    match items {
+        [] => Ok(clear_of(kind)),
+        [item] => Ok(match kind {
+            Kind::Bool => Some(WriteOp::PutBool(bool_in(item))),
+            Kind::Counter => counter_write(word, int_in(item)),
+            Kind::Text => Some(WriteOp::PutText(first_text(alloc, items)?)),
+            Kind::Set | Kind::Hash | Kind::List => {
+                text_write(kind, word, first_text(alloc, items)?)
+            }
+            Kind::Peak => Some(WriteOp::Raise(int_in(item))),
+        }),
+        [_, others @ ..] => {
+            let first = first_text(alloc, items)?;
+            let second = first_text(alloc, others)?;
+            Ok(pair_write(kind, first, second))
+        }
+    }
 }

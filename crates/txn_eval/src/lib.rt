@@ -14,17 +14,12 @@ mod items;
 mod kept;
 mod laws;
 mod lent;
-mod loads;
-mod memory;
 mod naming;
 mod observed;
 mod pause;
 mod running;
 mod seen_key;
-mod sizes;
 mod statement;
-mod trail;
-mod words;
 
 pub use laws::pauses_stay;
 pub use pause::Pause;

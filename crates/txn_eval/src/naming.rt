@@ -7,7 +7,7 @@ ghost use Rattle.txn_eval.specs.Pausing.{texts_over};
 ghost use Rattle.txn_eval.specs.code.Pauses.{left_behind};
 
 use crate::environment::Environment;
-use crate::trail::Over;
+use crate::pause::Over;
 use plain_data::{ExactClone, Text};
 use rdt_types::{Item, TextList};
 use std::alloc::{AllocError, Global};

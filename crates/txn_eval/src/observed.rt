@@ -1,12 +1,12 @@
 //! What a run has observed.
 
-ghost use Rattle.std.specs.Prelude.{◌≡◌, ◌≤◌, false, Some, if◌then◌else◌, [], take, length, OnOk, OnErr};
+ghost use Rattle.std.specs.Prelude.{◌≡◌, ◌≤◌, Some, if◌then◌else◌, [], take, length, OnOk, OnErr};
 ghost use Rattle.std.specs.Option.{option_copied};
 ghost use Rattle.std.specs.BTreeMap.{is_at};
 ghost use Rattle.txn_lang.specs.Own.{with_seen};
 ghost use Rattle.txn_eval.specs.declared.seen_key.SeenKey.{SeenKey};
 ghost use Rattle.txn_eval.specs.contracts.seen_key.SeenKeyOrd.TheImpl as order;
-ghost use Rattle.txn_eval.specs.code.Found.{is_listed, place_kept, stands};
+ghost use Rattle.txn_eval.specs.code.Found.{place_kept, stands};
 ghost use Rattle.txn_eval.specs.declared.observed.TheConstants.{LOOKED_THROUGH};
 
 use crate::seen_key::{SeenKey, key_of};
@@ -39,17 +39,6 @@ impl Model for Observed {
     ghost view = { λ o. o.list };
 
     ghost invariant = { λ o. AreFound LOOKED_THROUGH o.places o.list };
-}
-
-/// The first observations.
-fn first(list: &[Seen]) -> &[Seen]
-    ensures { result.now ≡ take LOOKED_THROUGH list.now }
-{
-    if list.len() <= LOOKED_THROUGH {
-        list
-    } else {
-        &list[..LOOKED_THROUGH]
-    }
 }
 
 /// Whether an observation stands at the place that is kept with its key.
@@ -90,22 +79,24 @@ impl Observed {
         ensures ok { OnOk result (self.new ≡ with_seen self.old seen) }
         ensures err { OnErr result (self.new ≡ self.old) }
     {
-        if first(self.list.as_slice()).contains(&seen) {
+        if self.list.len() >= LOOKED_THROUGH {
+            return self.note_behind(seen);
+        }
+        if self.list.as_slice().contains(&seen) {
             return Ok(());
         }
-        if self.list.len() < LOOKED_THROUGH {
-            return self.list.push(seen);
-        }
-        self.note_behind(seen)
+        self.list.push(seen)
     }
 
-    /// Lists an observation that isn't among the first ones, unless it is listed behind them.
+    /// Lists an observation where the first ones are there, unless it is listed among or behind them.
     fn note_behind(&mut self, seen: Seen) -> Result<(), AllocError>
-        requires many { LOOKED_THROUGH ≤ length self.old }
-        requires missed { is_listed seen (take LOOKED_THROUGH self.old) ≡ false }
+        requires { LOOKED_THROUGH ≤ length self.old }
         ensures ok { OnOk result (self.new ≡ with_seen self.old seen) }
         ensures err { OnErr result (self.new ≡ self.old) }
     {
+        if self.list.as_slice()[..LOOKED_THROUGH].contains(&seen) {
+            return Ok(());
+        }
         let key = key_of(&seen)?;
         if stands_at(self.list.as_slice(), self.places.get(&key), &seen) {
             return Ok(());

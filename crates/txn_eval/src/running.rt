@@ -1,15 +1,14 @@
 //! Whole runs.
 
-ghost use Rattle.std.specs.Prelude.{◌≡◌, IfOk, OnErr, [], Err};
+ghost use Rattle.std.specs.Prelude.{◌≡◌, IfOk, OnErr, List, [], Err};
+ghost use Rattle.rdt_types.specs.declared.address.Address.{Address};
+ghost use Rattle.txn_trees.specs.declared.statement.Stmt.{Stmt};
 ghost use Rattle.txn_lang.specs.declared.progress.Stop.TheVariants.{NoMemory};
-ghost use Rattle.txn_lang.specs.Execution.{begun, exec};
-ghost use Rattle.txn_lang.specs.Rules.{all_steps};
+ghost use Rattle.txn_lang.specs.declared.snaps.Snap.{Snap};
+ghost use Rattle.txn_lang.specs.Execution.{exec};
 ghost use Rattle.txn_eval.specs.Pausing.{IsPauseOf};
 ghost use Rattle.txn_eval.specs.Running.{ran_of, values_of};
 ghost use Rattle.txn_eval.specs.code.Answers.{EndsAs};
-ghost use Rattle.txn_eval.specs.code.Buffering.{kept_ended, nothing_kept};
-ghost use Rattle.txn_eval.specs.code.Loops.{stmts_on};
-ghost use Rattle.txn_eval.specs.code.Pauses.{first_pause};
 
 use crate::going::go_through;
 use crate::here::Known;
@@ -19,7 +18,6 @@ use rdt_types::{Address, DeltaMap, Outcome};
 use std::alloc::{AllocError, Global};
 use std::mem::replace;
 use txn_lang::{Checked, Progress, Run, Snaps, Stop};
-use txn_trees::Stmt;
 
 /// What a run comes to.
 #[derive(Debug, Drop)]
@@ -72,11 +70,19 @@ fn finished(run: Progress<Kept>) -> Step
     })
 }
 
-/// How a run ended. Nothing but want of memory is told as that.
-fn ended(alloc: Global, run: Progress<Kept>, ran: Result<(), Stop>) -> Result<Step, AllocError>
-    ensures ended { IfOk result (λ step. EndsAs ran run (ran_of step)) }
+/// How a run ended that has come to a pause, which is then that of a run which begins. Nothing but want of memory is told as that.
+fn settled(alloc: Global, pause: &mut Pause, ran: Result<(), Stop>) -> Result<Step, AllocError>
+    ensures ended { IfOk result (λ step. EndsAs ran pause.old.run (ran_of step)) }
     ensures told { OnErr result (ran ≡ Err NoMemory) }
+    ensures begun { (stmts : List Stmt) (snaps : List (Address × Snap)) → IsPauseOf stmts snaps pause.new }
 {
+    let done = replace(pause, Pause::begun(alloc));
+    let Pause {
+        at: _,
+        names: _,
+        run,
+        trail: _,
+    } = done;
     match ran {
         Ok(()) => Ok(finished(run)),
         Err(Stop::Need(address)) => Ok(Step::Need(address)),
@@ -84,36 +90,6 @@ fn ended(alloc: Global, run: Progress<Kept>, ran: Result<(), Stop>) -> Result<St
         Err(Stop::Spent) => Ok(stopped(alloc, run, Outcome::Spent)),
         Err(Stop::Big) => Ok(stopped(alloc, run, Outcome::Big)),
         Err(Stop::NoMemory) => Err(AllocError),
-    }
-}
-
-/// How a run ended that has come to a pause, which is then that of a run which begins.
-fn settled(alloc: Global, pause: &mut Pause, ran: Result<(), Stop>) -> Result<Step, AllocError>
-    ensures ended { IfOk result (λ step. EndsAs ran pause.old.run (ran_of step)) }
-    ensures told { OnErr result (ran ≡ Err NoMemory) }
-    ensures first { pause.new ≡ first_pause }
-{
-    let done = replace(pause, Pause::first(alloc));
-    ended(alloc, done.run, ran)
-}
-
-/// The run of statements over the deltas of their writes, from a pause.
-fn run_from(
-    alloc: Global,
-    snaps: &Snaps,
-    stmts: &[Stmt],
-    pause: &mut Pause,
-) -> Result<Step, AllocError>
-    requires { IsPauseOf stmts.now snaps.now pause.old }
-    ensures ran { IfOk result (λ step. ran_of step ≡ kept_ended (all_steps (stmts_on snaps.now stmts.now) [] (begun nothing_kept))) }
-    ensures paused { IsPauseOf stmts.now snaps.now pause.new }
-{
-    match go_through(&Known { alloc, snaps }, pause, stmts) {
-        Ok(()) => settled(alloc, pause, Ok(())),
-        Err(stop) => match stop {
-            Stop::Need(address) => Ok(Step::Need(address)),
-            stop => settled(alloc, pause, Err(stop)),
-        },
     }
 }
 
@@ -131,7 +107,13 @@ pub fn go_on(
     ensures paused { IfOk result (λ step. IsPauseOf body.now.body.stmts snaps.now pause.new) }
     ensures again { OnErr result (IsPauseOf body.now.body.stmts snaps.now pause.new) }
 {
-    run_from(alloc, snaps, body.body.stmts.as_slice(), pause)
+    match go_through(&Known { alloc, snaps }, pause, body.body.stmts.as_slice()) {
+        Ok(()) => settled(alloc, pause, Ok(())),
+        Err(stop) => match stop {
+            Stop::Need(address) => Ok(Step::Need(address)),
+            stop => settled(alloc, pause, Err(stop)),
+        },
+    }
 }
 
 /// Runs a checked body on the values of the snaps. It needs the value of an address exactly where the run by the definition

@@ -3,18 +3,15 @@
 ghost use Rattle.std.specs.Prelude.{◌≡◌, false, OnErr};
 ghost use Rattle.txn_lang.specs.Rules as rules;
 ghost use Rattle.txn_eval.specs.code.Answers.{Answers, Keeps, Leaves};
-ghost use Rattle.txn_eval.specs.code.Forms.{stmt_on, emit_here, fail_here, write_here, write_value_here, written_here};
+ghost use Rattle.txn_eval.specs.code.Forms.{stmt_on, emit_here, fail_here, write_value_here, written_here};
 ghost use Rattle.txn_eval.specs.code.Pauses.{holds_block};
 
-use crate::charging::{carry, charge};
+use crate::charging::{carry, charge, emit_size, write_size};
 use crate::environment::Environment;
 use crate::expression::{key_of, value_of, values_of};
 use crate::here::{Here, Known};
-use crate::items::{address_of, into_text};
+use crate::items::{into_text, write_of};
 use crate::kept::Kept;
-use crate::loads::{emit_size, write_size};
-use crate::memory::write_at;
-use crate::words::write_of;
 use rdt_types::{Address, Item, Kind};
 use txn_lang::{Progress, Stop};
 use txn_trees::{Expr, Stmt, StmtNode, WriteWord};
@@ -50,30 +47,11 @@ fn write(
     };
     carry(run, size)?;
     match write_of(here.alloc, address.kind, word, arguments)? {
-        Some(op) => write_at(here.alloc, here.snaps, run, address, &op),
+        Some(op) => {
+            run.memory.buffer.put_at(here.alloc, address, &op)?;
+            Ok(())
+        }
         None => Ok(()),
-    }
-}
-
-/// Writes what a word says with what its arguments give. A single one takes no list.
-fn write_given(
-    here: &Here<'_>,
-    run: &mut Progress<Kept>,
-    address: Address,
-    word: WriteWord,
-    exprs: &[Expr],
-) -> Result<(), Stop>
-    ensures { Keeps result here.now run.new (write_here here.now address word exprs.now run.old) }
-{
-    match exprs {
-        [only] => {
-            let items = [value_of(here, run, only)?];
-            write(here, run, address, word, &items)
-        }
-        _ => {
-            let items = values_of(here, run, exprs)?;
-            write(here, run, address, word, items.as_slice())
-        }
     }
 }
 
@@ -85,7 +63,7 @@ struct Target<'a> {
     key: &'a Expr,
 }
 
-/// Writes at the key that an expression gives.
+/// Writes what a word says, at the key that an expression gives, with what its arguments give. A single one takes no list.
 fn write_value(
     here: &Here<'_>,
     run: &mut Progress<Kept>,
@@ -96,8 +74,20 @@ fn write_value(
     ensures { Keeps result here.now run.new (write_value_here here.now target.now.kind target.now.key.now word exprs.now run.old) }
 {
     let key = key_of(here, run, target.key)?;
-    let address = address_of(here.alloc, target.kind, key);
-    write_given(here, run, address, word, exprs)
+    let address = Address {
+        kind: target.kind,
+        key: into_text(here.alloc, key),
+    };
+    match exprs {
+        [only] => {
+            let items = [value_of(here, run, only)?];
+            write(here, run, address, word, &items)
+        }
+        _ => {
+            let items = values_of(here, run, exprs)?;
+            write(here, run, address, word, items.as_slice())
+        }
+    }
 }
 
 /// Emits what an expression gives.

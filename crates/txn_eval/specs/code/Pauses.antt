@@ -20,11 +20,11 @@ use Rattle.txn_lang.specs.Execution.{begun}
 use Rattle.txn_eval.specs.declared.kept.Kept.{Kept}
 use Rattle.txn_eval.specs.declared.here.Known.{Known}
 use Rattle.txn_eval.specs.declared.here.Here.{Here}
-use Rattle.txn_eval.specs.declared.trail.Over.{Over}
-use Rattle.txn_eval.specs.declared.trail.Turns.{Turns}
-use Rattle.txn_eval.specs.declared.trail.Around.{Around}
-use Rattle.txn_eval.specs.declared.trail.Around.TheVariants as around
-use Rattle.txn_eval.specs.declared.trail.Frame.{Frame}
+use Rattle.txn_eval.specs.declared.pause.Over.{Over}
+use Rattle.txn_eval.specs.declared.pause.Turns.{Turns}
+use Rattle.txn_eval.specs.declared.pause.Around.{Around}
+use Rattle.txn_eval.specs.declared.pause.Around.TheVariants as around
+use Rattle.txn_eval.specs.declared.pause.Frame.{Frame}
 use Rattle.txn_eval.specs.declared.going.InTurn.{InTurn}
 use Rattle.txn_eval.specs.declared.pause.Pause.{Pause}
 use Rattle.txn_eval.specs.code.Buffering.{kept, nothing_kept}
@@ -113,10 +113,6 @@ GoesIn s (Ok _) left whole new = (t : PartialState) → Extends s t → whole t 
 GoesIn s (Err (stop.Need a)) left whole new = ((q : Progress Kept) × (whole s ≡ stopped (stop.Need a) q)) × ((x : Around) × (outside : ℕ) × (k : Pause)
     × (new ≡ inside x outside new.at k) × ((t : PartialState) → Extends s t → whole t ≡ left x outside t k))
 GoesIn s (Err e) left whole new = e ≢ stop.NoMemory → whole s ≡ stopped e new.run
-
--- before the first statement of a block
-abbrev pub first_frame : Around → ℕ → Frame
-first_frame x outside = record { around = x; outside = outside; at = 0 }
 
 -- the same of a branch, from a statement of it on, whatever form it is of
 abbrev pub GoesThrough : Known → Result (Unit {0}) Stop → Frame → List Stmt → Pause → Pause → Type 0

@@ -9,11 +9,11 @@ use Rattle.plain_data.specs.Texts.{Bytes}
 use Rattle.txn_lang.specs.Items.{Names}
 use Rattle.txn_lang.specs.Rules.{turns, stmt_run}
 use Rattle.txn_eval.specs.Running.{values_of}
-use Rattle.txn_eval.specs.declared.trail.Over.{Over}
+use Rattle.txn_eval.specs.declared.pause.Over.{Over}
 use Rattle.txn_eval.specs.code.Buffering.{kept}
-use Rattle.txn_eval.specs.declared.trail.Around.TheVariants as around
+use Rattle.txn_eval.specs.declared.pause.Around.TheVariants as around
 use Rattle.txn_eval.specs.Pausing.{texts_over}
-use Rattle.txn_eval.specs.code.Pauses.{Enters, inside, block_left, node_left, left_behind, GoesThrough}
+use Rattle.txn_eval.specs.code.Pauses.{Enters, inside, block_left, node_left, left_behind}
 use Rattle.txn_eval.proofs.Pauses.{extends_itself, stop_in, stop_going, within_branch, within_turn}
 use Rattle.txn_eval.proofs.Pauses.{block_needs, if_form, for_form, if_stops, for_stops, then_goes, else_goes, none_goes, for_goes, plain_goes, on_ok, on_going}
 use Rattle.txn_eval.proofs.Pauses.{turn_goes, turn_names, turns_end, turn_done, turn_stops, turn_needs, round_done, round_needs, next_goes}
@@ -51,9 +51,7 @@ fresh-returns-then-bool_in-clause-goes b c =
     (if_form c.args.stmt.now c.in-If.expr c.in-If.yes c.in-If.no c.in-If.is) c.in_ok-item-in-If.item c.head.new.run c.in_ok-item-in-If.ensures
     c.as_slice.result.now c.len-outside.result c.len-outside.ensures c.branch-known.result c.branch-known.new.pause
     (sym c.bool_in.ensures ∙ c.if-bool_in.true) c.as_slice.ensures
-    (subst (λ f. GoesThrough c.args.known.now c.branch-known.result f c.as_slice.result.now (record c.args.pause.now { run = c.head.new.run })
-    c.branch-known.new.pause)
-    c.first-frame.ensures c.branch-known.ensures.goes)
+    c.branch-known.ensures.goes
 
 pub fresh-returns-in-Some-clause-goes : goal.fresh-returns-in-Some-clause-goes
 fresh-returns-in-Some-clause-goes b c =
@@ -61,9 +59,7 @@ fresh-returns-in-Some-clause-goes b c =
     (if_form c.args.stmt.now c.in-If.expr c.in-If.yes c.in-If.no c.in-If.is) c.in_ok-item-in-If.item c.head.new.run c.in_ok-item-in-If.ensures
     c.as_slice-in-Some.result.now c.len-outside.result c.len-outside.ensures c.branch-known-in-Some.result c.branch-known-in-Some.new.pause
     c.in-Some.no (sym c.bool_in.ensures ∙ c.if-bool_in.false) c.in-Some.is c.as_slice-in-Some.ensures
-    (subst (λ f. GoesThrough c.args.known.now c.branch-known-in-Some.result f c.as_slice-in-Some.result.now
-    (record c.args.pause.now { run = c.head.new.run }) c.branch-known-in-Some.new.pause)
-    c.first-frame-in-Some.ensures c.branch-known-in-Some.ensures.goes)
+    c.branch-known-in-Some.ensures.goes
 
 pub fresh-returns-in-If-clause-goes : goal.fresh-returns-in-If-clause-goes
 fresh-returns-in-If-clause-goes b c =
