@@ -1,5 +1,5 @@
 //! Clients of a store, for the tests of what runs in threads: how they come to it, with a session whose next line may always
-//! follow, and what they are answered as text. The tests are in `thread_tests` and `backend_tests`.
+//! follow, and what they are answered as text. Most of the tests are in `thread_tests`.
 //!
 //! Its clauses are what these tests need to call the store at all; what a line is answered they say nothing of.
 #![tactic(auto)]

@@ -1,5 +1,5 @@
 //! Tests of the crates between the data and the sessions: `journal_core`, `hold_core`, `reactive_registry`, `txn_eval`,
-//! `rerun_driver`, `docc_prepare` and `local_world`. They try what no clause says: that calls find what they need with ample
+//! `rerun_driver`, `watch_reruns`, `par_rerun`, `docc_prepare` and `local_world`. They try what no clause says: that calls find what they need with ample
 //! memory, and worked values. Nothing stands on this crate.
 //!
 //! What a script can say of these crates is a case of `script_cases`, and what a definition says is a line beside it.
@@ -11,6 +11,8 @@ mod attempts;
 mod bodies;
 #[cfg(test)]
 mod holds;
+#[cfg(test)]
+mod reruns;
 #[cfg(test)]
 mod runs;
 #[cfg(test)]
