@@ -106,12 +106,7 @@ fn first_bar<L: Ledger>(
 }
 
 /// Adds the hold that a commit is, if it is one. There is memory for it.
-fn begin_by(
-    holds: &mut Vec<Watched>,
-    from: u64,
-    commit: &Commit,
-    observations: IndexedSeen,
-)
+fn begin_by(holds: &mut Vec<Watched>, from: u64, commit: &Commit, observations: IndexedSeen)
     requires room { length holds.old.items < vec_capacity holds.old }
     ensures more { holds.new.items ≡ holds.old.items ++ new_hold from commit.now observations }
     ensures capacity { vec_capacity holds.old ≤ vec_capacity holds.new }

@@ -237,12 +237,7 @@ fn cut_each(kept: &mut Kept, changes: &Changes<'_>, number: u64)
 
 /// Follows a tail. For want of memory it goes back to before the commit for which there was none, and answers the front that
 /// was reached.
-fn reach(
-    kept: &mut Kept,
-    alloc: Global,
-    tail: &LentTail<'_>,
-    window: u16,
-) -> Result<(), u64>
+fn reach(kept: &mut Kept, alloc: Global, tail: &LentTail<'_>, window: u16) -> Result<(), u64>
     requires { AreKept tail.now.from kept.old }
     ensures ok { OnOk result (Reaches window tail.now.changes.now tail.now.to kept.old kept.new) }
     ensures within { IfErr result (λ front. (tail.now.from ≤ front) × (front ≤ tail.now.to)) }
