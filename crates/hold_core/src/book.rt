@@ -6,7 +6,7 @@ ghost use Rattle.journal_core.specs.Holds.{bars_of, new_hold};
 ghost use Rattle.journal_core.specs.Journals.{CanAdd, AddsBelow, IfDiskFault};
 ghost use Rattle.hold_core.specs.Books.{first_holding, with_commit, most_hits, IsBookOf, IsEnteredWith};
 
-use crate::ending::outlasts;
+use crate::ending::end_by;
 use crate::indexed::IndexedSeen;
 use crate::telling::is_hold;
 use crate::watched::Watched;
@@ -75,7 +75,7 @@ impl HoldBook {
         requires next { commit.now.number ≡ self.old.length + 1 }
         ensures { self.new ≡ with_commit self.old commit.now observations }
     {
-        self.holds.retain(|hold| outlasts(commit, hold));
+        end_by(&mut self.holds, commit);
         self.length = commit.number;
         begin_by(&mut self.holds, self.from, commit, observations);
     }

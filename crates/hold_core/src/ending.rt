@@ -1,6 +1,7 @@
 //! What ends a hold.
 
-ghost use Rattle.std.specs.Prelude.{◌≡◌, ◌+◌, nat_lt};
+ghost use Rattle.std.specs.Prelude.{◌≡◌, ◌+◌, nat_lt, filter};
+ghost use Rattle.std.specs.Vec.{vec_capacity};
 ghost use Rattle.journal_core.specs.declared.limits.TheConstants.{HOLD_LASTS};
 ghost use Rattle.journal_core.specs.Holds as spec;
 
@@ -30,10 +31,18 @@ fn is_young(number: u64, hold: &Watched) -> bool
 }
 
 /// Whether a hold is live still behind a further commit.
-pub(crate) fn outlasts(commit: &Commit, hold: &Watched) -> bool
+fn outlasts(commit: &Commit, hold: &Watched) -> bool
     ensures { result ≡ spec.outlasts commit.now hold.now }
 {
     is_young(commit.number, hold)
         && hold.client() != commit.client
         && !disturbed::<Brand>(Blank::new(1), commit, hold)
+}
+
+/// Takes out the holds that a commit ends.
+pub(crate) fn end_by(holds: &mut Vec<Watched>, commit: &Commit)
+    ensures rest { holds.new.items ≡ filter (spec.outlasts commit.now) holds.old.items }
+    ensures capacity { vec_capacity holds.new ≡ vec_capacity holds.old }
+{
+    holds.retain(|hold| outlasts(commit, hold));
 }
