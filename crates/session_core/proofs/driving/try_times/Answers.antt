@@ -18,7 +18,7 @@ loop-init g c = record { plays = Leads.stays; attends = c.requires.attends; hold
 pub returns-in_err-reply-clause-plays : goal.returns-in_err-reply-clause-plays
 returns-in_err-reply-clause-plays g c =
     let more = try_times (c.args.tries - (c.loop.counter + 1)) c.args.session.now in
-    does_fail _ c.from_residual-in_err-reply.result c.from_residual-in_err-reply.ensures.1
+    does_fail _ c.from_residual.result c.from_residual.ensures.1
     (short_behind (to_same (try_round c.args.tries c.loop.counter c.args.session.now c.loop.attempt (omega arith)) c.loop.invariant.plays)
     (once_asks c.args.session.now c.loop.attempt (then_again more)) (short_in (then_again more) c.in_err-reply.ensures.plays))
 
