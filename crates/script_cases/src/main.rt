@@ -1,117 +1,52 @@
-//! Tries cases, which are scripts with their replies, as text. They come on the standard input; the head of `stdin` says how
-//! a case is written. Each is run by the top call of Diamond, `diamond_cli::diamond`, over objects in memory.
+//! Tries cases, as text. They come on the standard input, whose head says how they are written, kind by kind: scripts with their
+//! replies, the journal in a file, and audits.
 //!
-//! What differs is named, and the last line says how many cases were tried. The status is 0 where none differed.
+//! What differs is named, and a line a kind says how many cases there were. The status is 0 where nothing differed.
 #![tactic(auto)]
 
-mod case;
-mod row;
-mod run;
+mod audits;
+mod files;
+mod quoted;
+mod scripts;
 
-use case::{Case, CaseError};
-use row::Row;
-use run::{find_difference, run};
 use std::io;
 use std::process::ExitCode;
 use std::sync::Wait;
 use std::thread::Threads;
 
-/// How far the input is read.
-#[derive(Drop)]
-struct Trial<'a> {
-    /// The case whose rows are being read.
-    case: Option<Case<'a>>,
-    /// How many cases were tried.
-    tried: u32,
-    /// Whether each of them holds, and each row is of a form.
-    sound: bool,
-}
+/// What stands before the name of a kind, behind which its cases stand.
+const KIND: &str = "\n@kind ";
 
-/// Whether a case holds, read and answered in pieces of each size. The first difference is told.
-fn holds<R: Threads + Wait + Sync>(rt: &HostRuntime, threads: &R, case: &Case) -> io::Result<bool> {
-    for piece in [1, 3, 4096] {
-        let (status, sink) = run(threads, rt.alloc(), case, piece)?;
-        if let Some(found) = find_difference(rt.alloc(), case, status, &sink)? {
-            println!(rt; "{} (in pieces of {piece}): {found}", case.name)?;
-            return Ok(false);
-        }
-    }
-    Ok(true)
-}
-
-impl<'a> Trial<'a> {
-    /// Tries the case whose rows have been read, if there is one.
-    fn finish<R: Threads + Wait + Sync>(
-        &mut self,
-        rt: &HostRuntime,
-        threads: &R,
-    ) -> io::Result<()> {
-        if let Some(case) = self.case.take() {
-            self.tried = self.tried.saturating_add(1);
-            self.sound &= holds(rt, threads, &case)?;
-        }
-        Ok(())
-    }
-
-    /// Goes on with a row. A case ends where another begins, or a section does.
-    fn go_on<R: Threads + Wait + Sync>(
-        &mut self,
-        rt: &HostRuntime,
-        threads: &R,
-        row: Row<'a>,
-    ) -> Result<(), CaseError> {
-        match (row, &mut self.case) {
-            (Row::Case(name), _) => {
-                self.finish(rt, threads)?;
-                self.case = Some(Case::new(rt.alloc(), name));
-            }
-            (Row::Section, _) => self.finish(rt, threads)?,
-            (Row::Blank, _) | (Row::Remark(_), None) => {}
-            (row, Some(case)) => case.add(rt.alloc(), row)?,
-            (_, None) => return Err(CaseError::NoForm),
-        }
-        Ok(())
-    }
-}
-
-/// Tries all cases, and says how many there were. Whether all is as it is wanted.
-fn try_all<R: Threads + Wait + Sync>(
+/// Tries the cases of a kind, which stand behind its name. Whether all is as it is wanted.
+fn try_kind<R: Threads + Wait + Sync>(
     rt: &HostRuntime,
     threads: &R,
-    text: &str,
+    part: &str,
 ) -> io::Result<bool> {
-    let mut trial = Trial {
-        case: None,
-        tried: 0,
-        sound: true,
-    };
-    for (before, text) in text.lines().enumerate() {
-        let gone = match Row::read(text) {
-            Some(row) => trial.go_on(rt, threads, row),
-            None => Err(CaseError::NoForm),
-        };
-        match gone {
-            Ok(()) => {}
-            Err(CaseError::NoForm) => {
-                trial.sound = false;
-                println!(rt; "a row of no form behind {before} others: {text}")?;
-            }
-            Err(CaseError::Fault(fault)) => return Err(fault),
+    let (name, rows) = part.split_once("\n").unwrap_or((part, ""));
+    match name {
+        "scripts" => scripts::try_all(rt, threads, rows),
+        "files" => files::try_all(rt, threads, rows),
+        "audits" => audits::try_all(rt, threads, rows),
+        _ => {
+            println!(rt; "there are no cases of this kind: {name}")?;
+            Ok(false)
         }
     }
-    trial.finish(rt, threads)?;
-    println!(rt; "{} cases", trial.tried)?;
-    Ok(trial.sound)
 }
 
-/// Tries the cases of the standard input.
-fn tried<R: Threads + Wait + Sync>(rt: &HostRuntime, threads: &R) -> io::Result<bool> {
+/// Tries all cases of the standard input. Whether all is as it is wanted.
+fn try_all<R: Threads + Wait + Sync>(rt: &HostRuntime, threads: &R) -> io::Result<bool> {
     let text = io::read_to_string(rt.alloc(), rt.reader())?;
-    try_all(rt, threads, text.as_str())
+    let mut sound = true;
+    for part in text.as_str().split(KIND).skip(1) {
+        sound &= try_kind(rt, threads, part)?;
+    }
+    Ok(sound)
 }
 
 fn main(rt: HostRuntime) -> io::Result<ExitCode> {
-    let sound = tried(&rt, &rt)?;
+    let sound = try_all(&rt, &rt)?;
     Ok(if sound {
         ExitCode::SUCCESS
     } else {

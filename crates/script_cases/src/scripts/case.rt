@@ -1,44 +1,9 @@
 //! A case: a script, and what is to come of it.
 
-use crate::row::{Repeated, Row, Spelled};
+use crate::quoted::{CaseError, text_in};
+use crate::scripts::row::{Repeated, Row, Spelled};
 use dio_core::NEWLINE;
-use dtext::{TextError, read_text};
-use plain_data::Text;
 use std::alloc::{AllocError, Global};
-use std::io;
-
-/// How many bytes a text in quotes may take in a row.
-const LONGEST_QUOTED: usize = 65_536;
-
-/// Why a case can't be read or tried.
-#[derive(Debug, Drop)]
-pub(crate) enum CaseError {
-    /// A row says nothing that a case can have there.
-    NoForm,
-    /// A read or a write failed, or there was no memory.
-    Fault(io::Error),
-}
-
-impl From<AllocError> for CaseError {
-    fn from(error: AllocError) -> CaseError {
-        CaseError::Fault(io::Error::from(error))
-    }
-}
-
-impl From<io::Error> for CaseError {
-    fn from(error: io::Error) -> CaseError {
-        CaseError::Fault(error)
-    }
-}
-
-impl From<TextError> for CaseError {
-    fn from(error: TextError) -> CaseError {
-        match error {
-            TextError::At(_) => CaseError::NoForm,
-            TextError::NoMemory => CaseError::from(AllocError),
-        }
-    }
-}
 
 /// A script, and what is to come of it.
 #[derive(Drop)]
@@ -101,17 +66,9 @@ fn add_line(lines: &mut Vec<u8>, line: &str) -> Result<(), AllocError> {
     Ok(())
 }
 
-/// The text of a row.
-fn read_quoted(alloc: Global, said: Repeated) -> Result<Text, CaseError> {
-    if said.quoted.len() > LONGEST_QUOTED {
-        return Err(CaseError::NoForm);
-    }
-    Ok(read_text(alloc, said.quoted.as_bytes())?)
-}
-
 /// Adds a text to the last line, as often as a row says.
 fn add_more(alloc: Global, lines: &mut Vec<u8>, more: Repeated) -> Result<(), CaseError> {
-    let text = read_quoted(alloc, more)?;
+    let text = text_in(alloc, more.quoted)?;
     add_times(lines, text.as_slice(), more.count)?;
     Ok(())
 }
@@ -128,7 +85,7 @@ fn add_times(lines: &mut Vec<u8>, text: &[u8], count: u32) -> Result<(), AllocEr
 
 /// Adds a text to the last line for each number from 1 up to that of the row.
 fn add_each(alloc: Global, lines: &mut Vec<u8>, each: Repeated) -> Result<(), CaseError> {
-    let text = read_quoted(alloc, each)?;
+    let text = text_in(alloc, each.quoted)?;
     add_counted(alloc, lines, text.as_slice(), each.count)?;
     Ok(())
 }

@@ -1,20 +1,16 @@
-//! Tries cases of audits, as text. They come on the standard input; the head of `stdin` says how a case is written. Lists of commits
-//! are handed to `audit_core`, and files to the top call, over a disk in memory.
-//!
-//! What differs is named, and the last line says how many cases there were, and how often something was tried. The status is 0
-//! where nothing differed.
-#![tactic(auto)]
+//! Cases of audits. Lists of commits are handed to `audit_core`, and files to the top call, over a disk in memory. What differs is
+//! named, and a line says how many cases there were, and how often something was tried.
 
 mod auditing;
 mod case;
 mod commits;
 mod row;
 
-use case::{Case, CaseError, Given};
+use crate::quoted::CaseError;
+use case::{Case, Given};
 use row::{Act, Row};
 use std::alloc::Global;
 use std::io;
-use std::process::ExitCode;
 use std::sync::Wait;
 use std::thread::Threads;
 
@@ -87,7 +83,7 @@ impl<'a> Trial<'a> {
 }
 
 /// Tries the cases of a text. Whether all were as they are wanted.
-fn try_all<R: Threads + Wait + Sync>(
+pub(crate) fn try_all<R: Threads + Wait + Sync>(
     rt: &HostRuntime,
     threads: &R,
     text: &str,
@@ -113,21 +109,6 @@ fn try_all<R: Threads + Wait + Sync>(
             Err(CaseError::Fault(fault)) => return Err(fault),
         }
     }
-    println!(rt; "{} cases, {} tries", trial.cases, trial.tries)?;
+    println!(rt; "audits: {} cases, {} tries", trial.cases, trial.tries)?;
     Ok(trial.sound)
-}
-
-/// Tries the cases of the standard input.
-fn tried<R: Threads + Wait + Sync>(rt: &HostRuntime, threads: &R) -> io::Result<bool> {
-    let text = io::read_to_string(rt.alloc(), rt.reader())?;
-    try_all(rt, threads, text.as_str())
-}
-
-fn main(rt: HostRuntime) -> io::Result<ExitCode> {
-    let sound = tried(&rt, &rt)?;
-    Ok(if sound {
-        ExitCode::SUCCESS
-    } else {
-        ExitCode::FAILURE
-    })
 }

@@ -2,7 +2,7 @@
 
 ghost use Rattle.std.specs.Prelude.{◌<◌};
 
-use crate::case::Case;
+use crate::scripts::case::Case;
 use diamond_cli::diamond;
 use dio_core::{MemSink, MemSource, NEWLINE, NoDisk, NoListener};
 use std::alloc::{AllocError, Global};

@@ -3,7 +3,7 @@
 ghost use Rattle.std.specs.Prelude.{◌≤◌, length, Some};
 ghost use Rattle.dio_core.specs.Disks.{NothingPending};
 
-use crate::difference::{Difference, Found};
+use crate::files::difference::{Difference, Found};
 use commit_file::{MemDisk, RecoverError, Torn};
 use journal_file::{read_kept, recover};
 use plain_data::Text;

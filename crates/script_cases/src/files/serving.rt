@@ -3,8 +3,8 @@
 ghost use Rattle.std.specs.Prelude.{Some};
 ghost use Rattle.dio_core.specs.Disks.{NothingPending};
 
-use crate::difference::Difference;
-use crate::lines::end_of;
+use crate::files::difference::Difference;
+use crate::files::lines::end_of;
 use commit_file::MemDisk;
 use diamond_cli::diamond;
 use dio_core::{MemLink, MemLinks, MemListener, MemSink, MemSource};

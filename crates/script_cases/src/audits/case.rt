@@ -1,45 +1,14 @@
 //! A case: commits, a file, and what is done with them.
 
-use crate::auditing::{Ending, Found, Stored, audit_file, audit_list, audit_prefixes};
-use crate::commits::{add_write, commit_of, copies_of, outcome_in, text_in};
-use crate::row::{Act, Row};
-use dtext::TextError;
+use crate::audits::auditing::{Ending, Found, Stored, audit_file, audit_list, audit_prefixes};
+use crate::audits::commits::{add_write, commit_of, copies_of, outcome_in};
+use crate::audits::row::{Act, Row};
+use crate::quoted::{CaseError, text_in};
 use plain_data::Text;
 use std::alloc::{AllocError, Global};
-use std::io;
 use std::sync::Wait;
 use std::thread::Threads;
 use txn_lang::Commit;
-
-/// Why a row can't be read or done.
-#[derive(Debug, Drop)]
-pub(crate) enum CaseError {
-    /// It says nothing that a case can have there.
-    NoForm,
-    /// A read or a write failed, or there was no memory.
-    Fault(io::Error),
-}
-
-impl From<AllocError> for CaseError {
-    fn from(error: AllocError) -> CaseError {
-        CaseError::Fault(io::Error::from(error))
-    }
-}
-
-impl From<io::Error> for CaseError {
-    fn from(error: io::Error) -> CaseError {
-        CaseError::Fault(error)
-    }
-}
-
-impl From<TextError> for CaseError {
-    fn from(error: TextError) -> CaseError {
-        match error {
-            TextError::At(_) => CaseError::NoForm,
-            TextError::NoMemory => CaseError::from(AllocError),
-        }
-    }
-}
 
 /// Adds one thing more.
 fn add_to<T: Drop>(all: &mut Vec<T>, one: T) -> Result<(), AllocError> {

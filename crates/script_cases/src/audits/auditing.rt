@@ -3,8 +3,8 @@
 ghost use Rattle.std.specs.Prelude.{Some};
 ghost use Rattle.dio_core.specs.Disks.{NothingPending};
 
-use crate::case::CaseError;
-use crate::commits::copies_of;
+use crate::audits::commits::copies_of;
+use crate::quoted::CaseError;
 use audit_core::{Verdict, audit, report};
 use commit_file::{MemDisk, Torn};
 use diamond_cli::diamond;

@@ -3,10 +3,10 @@
 ghost use Rattle.std.specs.Prelude.{Some};
 ghost use Rattle.dio_core.specs.Disks.{NothingPending};
 
-use crate::difference::{Difference, Found};
-use crate::lines::text_of;
-use crate::recovering::{as_it_reads, find_unsafe, reads_alone, recovery_of};
-use crate::serving::{Wanted, Whole, serve, serve_whole};
+use crate::files::difference::{Difference, Found};
+use crate::files::lines::text_of;
+use crate::files::recovering::{as_it_reads, find_unsafe, reads_alone, recovery_of};
+use crate::files::serving::{Wanted, Whole, serve, serve_whole};
 use commit_file::MemDisk;
 use diamond_cli::NOT_JOURNAL;
 use plain_data::Text;

@@ -1,23 +1,12 @@
 //! Commits, as rows say them.
 
-use crate::case::CaseError;
-use dtext::{next_part, read_address, read_outcome, read_text};
+use crate::quoted::{CaseError, LONGEST_QUOTED, text_in};
+use dtext::{next_part, read_address, read_outcome};
 use plain_data::{OrNoMemory, Text};
 use predictive_parsing::Cursor;
 use rdt_types::{DeltaMap, Kind, Outcome, WriteOp, add_delta, delta_of};
 use std::alloc::{AllocError, Global};
 use txn_lang::{Commit, CommitList};
-
-/// How many bytes a text in a row may take.
-const LONGEST_QUOTED: usize = 65_536;
-
-/// The text that a row has in quotes.
-pub(crate) fn text_in(alloc: Global, quoted: &str) -> Result<Text, CaseError> {
-    if quoted.len() > LONGEST_QUOTED {
-        return Err(CaseError::NoForm);
-    }
-    Ok(read_text(alloc, quoted.as_bytes())?)
-}
 
 /// The outcome that a row has.
 pub(crate) fn outcome_in(alloc: Global, printed: &str) -> Result<Outcome, CaseError> {

@@ -3,10 +3,10 @@
 ghost use Rattle.std.specs.Prelude.{Some, ◌≤◌, length};
 ghost use Rattle.dio_core.specs.Disks.{NothingPending};
 
-use crate::difference::Difference;
-use crate::lines::{add_reply, text_of};
-use crate::recovering::leaves_either;
-use crate::serving::{Wanted, Whole, serve, serve_whole};
+use crate::files::difference::Difference;
+use crate::files::lines::{add_reply, text_of};
+use crate::files::recovering::leaves_either;
+use crate::files::serving::{Wanted, Whole, serve, serve_whole};
 use commit_file::MemDisk;
 use diamond_cli::DISK_FAULT;
 use std::alloc::{AllocError, Global};

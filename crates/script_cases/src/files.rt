@@ -1,10 +1,6 @@
-//! Tries cases of the journal in a file, as text. They come on the standard input; the head of `stdin` says how a case is
-//! written. Files are recovered by `journal_file` and served by the top call, over a disk in memory that gives each image
-//! which a crash may leave, and fails at named calls.
-//!
-//! What differs is named, and the last line says how many cases there were, and how often something was tried. The status is 0
-//! where nothing differed.
-#![tactic(auto)]
+//! Cases of the journal in a file. Files are recovered by `journal_file` and served by the top call, over a disk in memory that
+//! gives each image which a crash may leave, and fails at named calls. What differs is named, and a line says how many cases there
+//! were, and how often something was tried.
 
 mod acting;
 mod case;
@@ -15,12 +11,12 @@ mod recovering;
 mod row;
 mod serving;
 
-use case::{Case, CaseError, add_quoted};
+use crate::quoted::{CaseError, text_in};
+use case::Case;
 use plain_data::Text;
 use row::{Act, Row};
 use std::alloc::Global;
 use std::io;
-use std::process::ExitCode;
 use std::sync::Wait;
 use std::thread::Threads;
 
@@ -89,7 +85,11 @@ impl<'a> Trial<'a> {
                 self.finish()
             }
             (Row::Act(act), _) => self.act(rt, threads, act),
-            (Row::Whole(quoted), None) => add_quoted(rt.alloc(), &mut self.whole, quoted),
+            (Row::Whole(quoted), None) => {
+                let more = text_in(rt.alloc(), quoted)?;
+                self.whole.extend_from_slice(more.as_slice())?;
+                Ok(())
+            }
             (Row::Begin, Some(case)) => {
                 case.file = Text::from_slice(rt.alloc(), self.whole.as_slice())?;
                 Ok(())
@@ -114,7 +114,7 @@ impl<'a> Trial<'a> {
 }
 
 /// Tries all cases, and says how many there were. Whether all is as it is wanted.
-fn try_all<R: Threads + Wait + Sync>(
+pub(crate) fn try_all<R: Threads + Wait + Sync>(
     rt: &HostRuntime,
     threads: &R,
     text: &str,
@@ -139,21 +139,6 @@ fn try_all<R: Threads + Wait + Sync>(
         }
     }
     let ended = trial.finish().is_ok();
-    println!(rt; "{} cases, {} tries", trial.cases, trial.tries)?;
+    println!(rt; "files: {} cases, {} tries", trial.cases, trial.tries)?;
     Ok(trial.sound && ended)
-}
-
-/// Tries the cases of the standard input.
-fn tried<R: Threads + Wait + Sync>(rt: &HostRuntime, threads: &R) -> io::Result<bool> {
-    let text = io::read_to_string(rt.alloc(), rt.reader())?;
-    try_all(rt, threads, text.as_str())
-}
-
-fn main(rt: HostRuntime) -> io::Result<ExitCode> {
-    let sound = tried(&rt, &rt)?;
-    Ok(if sound {
-        ExitCode::SUCCESS
-    } else {
-        ExitCode::FAILURE
-    })
 }

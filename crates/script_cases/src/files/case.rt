@@ -1,58 +1,14 @@
 //! A case: a file, and what is done with it.
 
-use crate::acting::{Said, recovers, refused, served, unserved};
-use crate::difference::Difference;
-use crate::each::{Session, find_at_each};
-use crate::row::{Act, Row};
-use dtext::{TextError, read_text};
+use crate::files::acting::{Said, recovers, refused, served, unserved};
+use crate::files::difference::Difference;
+use crate::files::each::{Session, find_at_each};
+use crate::files::row::{Act, Row};
+use crate::quoted::{CaseError, text_in};
 use plain_data::Text;
 use std::alloc::{AllocError, Global};
-use std::io;
 use std::sync::Wait;
 use std::thread::Threads;
-
-/// How many bytes a text in quotes may take in a row.
-const LONGEST_QUOTED: usize = 65_536;
-
-/// Why a row can't be read or done.
-#[derive(Debug, Drop)]
-pub(crate) enum CaseError {
-    /// It says nothing that a case can have there.
-    NoForm,
-    /// A read or a write failed, or there was no memory.
-    Fault(io::Error),
-}
-
-impl From<AllocError> for CaseError {
-    fn from(error: AllocError) -> CaseError {
-        CaseError::Fault(io::Error::from(error))
-    }
-}
-
-impl From<io::Error> for CaseError {
-    fn from(error: io::Error) -> CaseError {
-        CaseError::Fault(error)
-    }
-}
-
-impl From<TextError> for CaseError {
-    fn from(error: TextError) -> CaseError {
-        match error {
-            TextError::At(_) => CaseError::NoForm,
-            TextError::NoMemory => CaseError::from(AllocError),
-        }
-    }
-}
-
-/// Adds a text in quotes to bytes.
-pub(crate) fn add_quoted(alloc: Global, bytes: &mut Text, quoted: &str) -> Result<(), CaseError> {
-    if quoted.len() > LONGEST_QUOTED {
-        return Err(CaseError::NoForm);
-    }
-    let text = read_text(alloc, quoted.as_bytes())?;
-    bytes.extend_from_slice(text.as_slice())?;
-    Ok(())
-}
 
 /// The first place at which bytes differ.
 fn first_that_differs(some: &[u8], others: &[u8]) -> Option<usize> {
@@ -112,8 +68,12 @@ impl<'a> Case<'a> {
     /// Adds what a row says.
     pub(crate) fn add(&mut self, alloc: Global, row: Row<'a>) -> Result<(), CaseError> {
         match row {
-            Row::More(quoted) => add_quoted(alloc, &mut self.file, quoted)?,
-            Row::Like(quoted) => add_quoted(alloc, &mut self.like, quoted)?,
+            Row::More(quoted) => self
+                .file
+                .extend_from_slice(text_in(alloc, quoted)?.as_slice())?,
+            Row::Like(quoted) => self
+                .like
+                .extend_from_slice(text_in(alloc, quoted)?.as_slice())?,
             Row::Cut(length) => self.file.truncate(length),
             Row::Set(place, byte) => self.set(place, byte)?,
             Row::Kept(body) => add_to(&mut self.bodies, body)?,
