@@ -6,7 +6,7 @@ ghost use Rattle.diamond_store.specs.Answers.{Learns};
 use crate::gate::Gate;
 use crate::pass::Pass;
 use crate::store::Store;
-use history_lock::Naming;
+use history_lock::{Naming, acquire};
 use journal_core::Keep;
 use std::sync::{Condvar, Mutex, MutexGuard, Wait};
 
@@ -41,7 +41,7 @@ impl Bell {
     pub(crate) fn hold<R: Wait>(&self, rt: &R) -> HeldBell<'_> {
         HeldBell {
             rung: &self.rung,
-            guard: self.lock.lock(rt),
+            guard: acquire(rt, &self.lock),
         }
     }
 }

@@ -8,6 +8,7 @@ ghost use Rattle.history_lock.specs.Tokens.{HoldsOwn, KnowsAll, KnowsAs, IsLater
 use crate::front::Front;
 use crate::held::HistoryGuard;
 use crate::lock::HistoryLock;
+use crate::locking::acquire;
 use crate::naming::Naming;
 use crate::rule::{Append, COUNT, Count, LENGTH, Raise};
 use crate::stands::Stands;
@@ -66,7 +67,7 @@ impl<T: Stands + Drop, N: Naming> HistoryLock<T, N> {
         ensures looks { IfSome result (λ guard. front.old.looks < front.new.looks) }
         ensures lawful { IfSome result (λ guard. IsLawful T.may_follow N.lock.base front.new.seen) }
     {
-        let mut guard = HistoryGuard::take(self.held.lock(rt))?;
+        let mut guard = HistoryGuard::take(acquire(rt, &self.held))?;
         if self.catch_up(front, &mut guard) {
             return Some(guard);
         }
