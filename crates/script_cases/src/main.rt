@@ -6,7 +6,6 @@
 
 mod audits;
 mod files;
-mod quoted;
 mod scripts;
 
 use std::io;

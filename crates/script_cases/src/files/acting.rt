@@ -1,81 +1,69 @@
-//! What is done with a file, and how what comes of it differs.
+//! What is done in a case, and how what comes of it differs.
 
-ghost use Rattle.std.specs.Prelude.{Some};
-ghost use Rattle.dio_core.specs.Disks.{NothingPending};
-
-use crate::files::difference::{Difference, Found};
-use crate::files::lines::text_of;
-use crate::files::recovering::{as_it_reads, find_unsafe, reads_alone, recovery_of};
-use crate::files::serving::{Wanted, Whole, serve, serve_whole};
-use commit_file::MemDisk;
+use crate::files::serving::{find_at_each, serve_over};
+use case_rows::files::{Act, Case, Difference, Refused, Talk};
 use diamond_cli::NOT_JOURNAL;
-use plain_data::Text;
 use std::alloc::{AllocError, Global};
 use std::sync::Wait;
 use std::thread::Threads;
 
-/// Whether a second recovery finds the same, and leaves the file as the first one did.
-fn rests(alloc: Global, file: &[u8], bodies: &[&str], wanted: Found) -> Result<bool, AllocError> {
-    let mut again = Text::from_slice(alloc, file)?;
-    let found = recovery_of(alloc, &mut again, bodies)?;
-    Ok(found == wanted && again.as_slice() == file)
-}
-
-/// How the recovery of a file differs. The file is then what it leaves.
-fn recover_once(
+/// Serves what is said over the case's file. Its session is then over.
+fn serve<R: Threads + Wait + Sync>(
+    threads: &R,
     alloc: Global,
-    file: &mut Text,
-    bodies: &[&str],
-    end: u64,
+    case: &mut Case,
+    talk: &Talk,
 ) -> Result<Option<Difference>, AllocError> {
-    let found = recovery_of(alloc, file, bodies)?;
-    if found != Found::Journal(end) {
-        return Ok(Some(Difference::Found(found)));
-    }
-    if file.len() as u64 != end.saturating_add(1) {
-        return Ok(Some(Difference::Long(file.len())));
-    }
-    if !rests(alloc, file.as_slice(), bodies, found)? {
-        return Ok(Some(Difference::Second));
-    }
-    Ok(None)
+    let found = serve_over(threads, alloc, &mut case.file, case.fails.as_slice(), talk)?;
+    case.clear();
+    Ok(found)
 }
 
-/// How it differs what is made of a file that holds commits with these bodies: by a recovery, by a second one, by one that is cut
-/// off or fails at each of its calls, and by who only reads. The file is then what a recovery leaves.
-pub(crate) fn recovers(
+/// Serves the session.
+fn serve_session<R: Threads + Wait + Sync>(
+    threads: &R,
     alloc: Global,
-    file: &mut Text,
-    bodies: &[&str],
-    end: u64,
+    case: &mut Case,
+    commits: usize,
 ) -> Result<Option<Difference>, AllocError> {
-    if !reads_alone(alloc, file.as_slice(), bodies, Found::Journal(0))? {
-        return Ok(Some(Difference::Reading));
-    }
-    let cut_off = find_unsafe(alloc, file.as_slice(), bodies)?;
-    if cut_off.is_some() {
-        return Ok(cut_off);
-    }
-    recover_once(alloc, file, bodies, end)
+    let talk = case.talk(alloc, commits)?;
+    serve(threads, alloc, case, &talk)
 }
 
-/// How it differs what is made of a file that is no journal, of which another is a copy.
-fn refuse_all<R: Threads + Wait + Sync>(
+/// Serves where nobody is served.
+fn serve_nobody<R: Threads + Wait + Sync>(
+    threads: &R,
+    alloc: Global,
+    case: &mut Case,
+    status: u8,
+) -> Result<Option<Difference>, AllocError> {
+    let talk = Talk::unserved(alloc, status)?;
+    serve(threads, alloc, case, &talk)
+}
+
+/// Serves the session with a crash, and with a fault, at each call.
+fn serve_each<R: Threads + Wait + Sync>(
+    threads: &R,
+    alloc: Global,
+    case: &mut Case,
+    recovery: u64,
+    commit: u64,
+) -> Result<Option<Difference>, AllocError> {
+    let found = find_at_each(threads, alloc, case.session(recovery, commit))?;
+    case.clear();
+    Ok(found)
+}
+
+/// Whether a file that is no journal is left as it was by a server, to which what a recovery has left of it is handed.
+fn find_served<R: Threads + Wait + Sync>(
     threads: &R,
     alloc: Global,
     file: &[u8],
-    left: &mut Text,
-    at: u64,
+    refused: &mut Refused,
 ) -> Result<Option<Difference>, AllocError> {
-    let found = recovery_of(alloc, left, &[])?;
-    if found != Found::NotJournal(at) {
-        return Ok(Some(Difference::Found(found)));
-    }
-    if !reads_alone(alloc, file, &[], found)? {
-        return Ok(Some(Difference::Reading));
-    }
-    let served = unserved(threads, alloc, left, &[], NOT_JOURNAL)?;
-    Ok(if served.is_none() && left.as_slice() != file {
+    let talk = Talk::unserved(alloc, NOT_JOURNAL)?;
+    let served = serve_over(threads, alloc, &mut refused.left, &[], &talk)?;
+    Ok(if served.is_none() && refused.left.as_slice() != file {
         Some(Difference::Changed)
     } else {
         served
@@ -84,87 +72,33 @@ fn refuse_all<R: Threads + Wait + Sync>(
 
 /// How it differs what is made of a file that is no journal: it is left as it was by a recovery, by who only reads, and by a
 /// server.
-pub(crate) fn refused<R: Threads + Wait + Sync>(
+fn refuse<R: Threads + Wait + Sync>(
     threads: &R,
     alloc: Global,
-    file: &[u8],
+    case: &Case,
     at: u64,
 ) -> Result<Option<Difference>, AllocError> {
-    let mut left = Text::from_slice(alloc, file)?;
-    refuse_all(threads, alloc, file, &mut left, at)
+    let mut refused = case.refuse(alloc, at)?;
+    match refused.difference {
+        Some(found) => Ok(Some(found)),
+        None => find_served(threads, alloc, case.file.as_slice(), &mut refused),
+    }
 }
 
-/// What a session says that isn't served.
-const UNHEARD: &[u8] = b"do emit 1;\n";
-
-/// How it differs that a server ends with this status, and does nothing else. The file is then what it leaves.
-pub(crate) fn unserved<R: Threads + Wait + Sync>(
+/// Does something, and gives how what comes of it differs.
+pub(crate) fn act_in<R: Threads + Wait + Sync>(
     threads: &R,
     alloc: Global,
-    file: &mut Text,
-    fails: &[u64],
-    status: u8,
+    case: &mut Case,
+    act: Act,
 ) -> Result<Option<Difference>, AllocError> {
-    let mut disk = MemDisk::new(alloc, file.as_slice(), fails)?;
-    let nothing = Wanted {
-        status,
-        line: b"",
-        replies: b"",
-    };
-    let found = serve(threads, alloc, &mut disk, UNHEARD, nothing)?;
-    *file = as_it_reads(&disk)?;
-    Ok(found)
-}
-
-/// A session: its lines, what they are answered, and how many commits there are then.
-#[derive(Clone, Copy)]
-pub(crate) struct Said<'s> {
-    pub(crate) lines: &'s [&'s str],
-    pub(crate) replies: &'s [&'s str],
-    pub(crate) commits: usize,
-}
-
-/// Serves a session that says this.
-fn answer<R: Threads + Wait + Sync>(
-    threads: &R,
-    alloc: Global,
-    disk: &mut MemDisk,
-    script: &[u8],
-    said: Said,
-) -> Result<Option<Difference>, AllocError>
-    requires { NothingPending (Some disk.old.present) }
-{
-    let replies = text_of(alloc, said.replies)?;
-    let whole = Whole {
-        replies: replies.as_slice(),
-        commits: said.commits,
-    };
-    serve_whole(threads, alloc, disk, script, whole)
-}
-
-/// Serves a session over a disk.
-fn say<R: Threads + Wait + Sync>(
-    threads: &R,
-    alloc: Global,
-    disk: &mut MemDisk,
-    said: Said,
-) -> Result<Option<Difference>, AllocError>
-    requires { NothingPending (Some disk.old.present) }
-{
-    let script = text_of(alloc, said.lines)?;
-    answer(threads, alloc, disk, script.as_slice(), said)
-}
-
-/// How a session differs that is served over a disk on which these calls fail. The file is then what it leaves.
-pub(crate) fn served<R: Threads + Wait + Sync>(
-    threads: &R,
-    alloc: Global,
-    file: &mut Text,
-    fails: &[u64],
-    said: Said,
-) -> Result<Option<Difference>, AllocError> {
-    let mut disk = MemDisk::new(alloc, file.as_slice(), fails)?;
-    let found = say(threads, alloc, &mut disk, said)?;
-    *file = as_it_reads(&disk)?;
-    Ok(found)
+    match act {
+        Act::Recovers(end) => case.recover(alloc, end),
+        Act::Refused(at) => refuse(threads, alloc, case, at),
+        Act::Served(commits) => serve_session(threads, alloc, case, commits),
+        Act::Unserved(status) => serve_nobody(threads, alloc, case, status),
+        Act::Each { recovery, commit } => serve_each(threads, alloc, case, recovery, commit),
+        Act::Holds => Ok(case.hold()),
+        Act::Long(length) => Ok(case.long(length)),
+    }
 }

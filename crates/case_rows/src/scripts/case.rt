@@ -7,10 +7,12 @@ use std::alloc::{AllocError, Global};
 
 /// A script, and what is to come of it.
 #[derive(Drop)]
-pub(crate) struct Case<'a> {
-    pub(crate) name: &'a str,
-    pub(crate) settings: Spelled<'a>,
-    pub(crate) script: Vec<u8>,
+pub struct Case<'a> {
+    /// Its name.
+    pub name: &'a str,
+    settings: Spelled<'a>,
+    /// The script, line by line.
+    pub script: Vec<u8>,
     pub(crate) replies: Vec<u8>,
     /// Whether these are the last replies, behind others that are not said.
     pub(crate) are_last: bool,
@@ -32,6 +34,19 @@ impl<'a> Case<'a> {
             are_last: false,
             status: 0,
         }
+    }
+
+    /// The words of the command that runs it.
+    pub fn words(&self) -> [&'a str; 7] {
+        [
+            "run",
+            "--shards",
+            self.settings.shards,
+            "--window",
+            self.settings.window,
+            "--limit",
+            self.settings.limit,
+        ]
     }
 
     /// Adds what a row says.

@@ -14,7 +14,7 @@ use txn_lang::CommitList;
 const TORN: [Torn; 3] = [Torn::Old, Torn::New, Torn::Ones];
 
 /// The file on a disk, as it reads.
-pub(crate) fn as_it_reads(disk: &MemDisk) -> Result<Text, AllocError> {
+pub fn as_it_reads(disk: &MemDisk) -> Result<Text, AllocError> {
     disk.image(disk.calls(), Torn::New)
 }
 
@@ -149,7 +149,7 @@ fn fails_safely(
 }
 
 /// How a recovery that is cut off, or fails, at any of its calls differs.
-pub(crate) fn find_unsafe(
+fn find_unsafe(
     alloc: Global,
     file: &[u8],
     bodies: &[&str],
@@ -177,4 +177,49 @@ pub(crate) fn reads_alone(
     let found = read_on(alloc, &mut disk, bodies);
     let left = as_it_reads(&disk)?;
     Ok(found == wanted && left.as_slice() == file)
+}
+
+/// Whether a second recovery finds the same, and leaves the file as the first one did.
+fn rests(alloc: Global, file: &[u8], bodies: &[&str], wanted: Found) -> Result<bool, AllocError> {
+    let mut again = Text::from_slice(alloc, file)?;
+    let found = recovery_of(alloc, &mut again, bodies)?;
+    Ok(found == wanted && again.as_slice() == file)
+}
+
+/// How the recovery of a file differs. The file is then what it leaves.
+fn recover_once(
+    alloc: Global,
+    file: &mut Text,
+    bodies: &[&str],
+    end: u64,
+) -> Result<Option<Difference>, AllocError> {
+    let found = recovery_of(alloc, file, bodies)?;
+    if found != Found::Journal(end) {
+        return Ok(Some(Difference::Found(found)));
+    }
+    if file.len() as u64 != end.saturating_add(1) {
+        return Ok(Some(Difference::Long(file.len())));
+    }
+    if !rests(alloc, file.as_slice(), bodies, found)? {
+        return Ok(Some(Difference::Second));
+    }
+    Ok(None)
+}
+
+/// How it differs what is made of a file that holds commits with these bodies: by a recovery, by a second one, by one that is cut
+/// off or fails at each of its calls, and by who only reads. The file is then what a recovery leaves.
+pub(crate) fn recovers(
+    alloc: Global,
+    file: &mut Text,
+    bodies: &[&str],
+    end: u64,
+) -> Result<Option<Difference>, AllocError> {
+    if !reads_alone(alloc, file.as_slice(), bodies, Found::Journal(0))? {
+        return Ok(Some(Difference::Reading));
+    }
+    let cut_off = find_unsafe(alloc, file.as_slice(), bodies)?;
+    if cut_off.is_some() {
+        return Ok(cut_off);
+    }
+    recover_once(alloc, file, bodies, end)
 }

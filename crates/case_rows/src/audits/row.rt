@@ -13,13 +13,8 @@ pub(crate) enum Row<'a> {
     Commit(u64, u32, u64, &'a str),
     /// The last commit writes this more: an address, and a part.
     Writes(&'a str),
-    /// The commit at this place, from 1, has another number, client, seq, body or outcome, or writes this more.
-    Number(usize, u64),
-    Client(usize, u32),
-    Seq(usize, u64),
-    Body(usize, &'a str),
-    Outcome(usize, &'a str),
-    Adds(usize, &'a str),
+    /// The commit at this place, from 1, is changed.
+    Change(usize, Change<'a>),
     /// More of the file: a text in quotes.
     More(&'a str),
     /// The file has so many bytes.
@@ -32,9 +27,26 @@ pub(crate) enum Row<'a> {
     Act(Act<'a>),
 }
 
+/// How a commit is changed.
+#[derive(Clone, Copy)]
+pub(crate) enum Change<'a> {
+    /// It has another number.
+    Number(u64),
+    /// It has another client.
+    Client(u32),
+    /// It has another seq.
+    Seq(u64),
+    /// It has another body.
+    Body(&'a str),
+    /// It has another outcome.
+    Outcome(&'a str),
+    /// It writes this more: an address, and a part.
+    Adds(&'a str),
+}
+
 /// What is done, and what has to come of it.
 #[derive(Clone, Copy)]
-pub(crate) enum Act<'a> {
+pub enum Act<'a> {
     /// The commits are audited, and the state after so many is asked for; this is reported.
     List(Option<&'a str>, &'a str),
     /// Each of the beginnings of the commits is legal.
@@ -87,15 +99,23 @@ impl<'a> Row<'a> {
     fn read_change(word: &str, rest: &'a str) -> Option<Row<'a>> {
         let (place, rest) = rest.split_once(" ")?;
         let place = place.parse::<usize>().ok()?;
-        match word {
-            "number" => Some(Row::Number(place, rest.parse::<u64>().ok()?)),
-            "client" => Some(Row::Client(place, rest.parse::<u32>().ok()?)),
-            "seq" => Some(Row::Seq(place, rest.parse::<u64>().ok()?)),
-            "body" => Some(Row::Body(place, rest)),
-            "outcome" => Some(Row::Outcome(place, rest)),
-            "adds" => Some(Row::Adds(place, rest)),
-            _ => None,
-        }
+        let change = Change::read(word, rest)?;
+        Some(Row::Change(place, change))
+    }
+}
+
+impl<'a> Change<'a> {
+    /// Reads how a commit is changed.
+    fn read(word: &str, rest: &'a str) -> Option<Change<'a>> {
+        Some(match word {
+            "number" => Change::Number(rest.parse::<u64>().ok()?),
+            "client" => Change::Client(rest.parse::<u32>().ok()?),
+            "seq" => Change::Seq(rest.parse::<u64>().ok()?),
+            "body" => Change::Body(rest),
+            "outcome" => Change::Outcome(rest),
+            "adds" => Change::Adds(rest),
+            _ => return None,
+        })
     }
 }
 

@@ -10,7 +10,7 @@ pub(crate) const LONGEST_QUOTED: usize = 65_536;
 
 /// Why a row can't be read or done.
 #[derive(Debug, Drop)]
-pub(crate) enum CaseError {
+pub enum CaseError {
     /// It says nothing that a case can have there.
     NoForm,
     /// A read or a write failed, or there was no memory.

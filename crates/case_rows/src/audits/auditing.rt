@@ -1,24 +1,19 @@
 //! What is audited, and what comes of it.
 
-ghost use Rattle.std.specs.Prelude.{Some};
-ghost use Rattle.dio_core.specs.Disks.{NothingPending};
-
+use crate::audits::case::Given;
 use crate::audits::commits::copies_of;
-use crate::quoted::CaseError;
+use crate::quoted::{CaseError, text_in};
 use audit_core::{Verdict, audit, report};
 use commit_file::{MemDisk, Torn};
-use diamond_cli::diamond;
-use dio_core::{MemSink, MemSource, NoListener};
+use dio_core::MemSink;
 use plain_data::Text;
 use std::alloc::{AllocError, Global};
 use std::fmt;
-use std::sync::Wait;
-use std::thread::Threads;
 use txn_lang::{Commit, CommitList};
 
 /// What came of an audit, where it isn't what is wanted.
 #[derive(Debug, Drop)]
-pub(crate) enum Found {
+pub enum Found {
     /// This was told.
     Told(Text),
     /// The first commits, so many, came to this verdict.
@@ -60,7 +55,7 @@ fn number_in(word: &str) -> Result<u64, CaseError> {
 }
 
 /// What the audit of commits tells, where it isn't this.
-pub(crate) fn audit_list(
+fn audit_list(
     alloc: Global,
     commits: &CommitList,
     at: Option<&str>,
@@ -79,10 +74,7 @@ pub(crate) fn audit_list(
 }
 
 /// How many of the first commits aren't legal, if there are any such.
-pub(crate) fn audit_prefixes(
-    alloc: Global,
-    commits: &[Commit],
-) -> Result<Option<Found>, AllocError> {
+fn audit_prefixes(alloc: Global, commits: &[Commit]) -> Result<Option<Found>, AllocError> {
     for count in 0..=commits.len() {
         let first = copies_of(alloc, &commits[..count])?;
         let verdict = audit(alloc, &first)?;
@@ -93,79 +85,61 @@ pub(crate) fn audit_prefixes(
     Ok(None)
 }
 
-/// Audits the file of a disk by the words of a command.
-fn run<R: Threads + Wait + Sync>(
-    threads: &R,
-    alloc: Global,
-    disk: &mut MemDisk,
-    at: Option<&str>,
-    sink: &mut MemSink,
-) -> Result<u8, AllocError>
-    requires { NothingPending (Some disk.old.present) }
-{
-    let mut source = MemSource::new(alloc, b"", 1, &[])?;
-    let mut listener = NoListener::new();
-    let alone = ["audit", "--file", "f"];
-    Ok(match at {
-        None => diamond(
-            threads,
-            alloc,
-            &alone,
-            &mut source,
-            sink,
-            disk,
-            &mut listener,
-        ),
-        Some(at) => {
-            let words = ["audit", "--file", "f", "--at", at];
-            diamond(
-                threads,
-                alloc,
-                &words,
-                &mut source,
-                sink,
-                disk,
-                &mut listener,
-            )
-        }
-    })
-}
-
 /// The file of a disk, as it reads.
 fn file_of(disk: &MemDisk) -> Result<Text, AllocError> {
     disk.image(disk.calls(), Torn::New)
 }
 
-/// A file, and the calls of its disk that fail.
+/// With which status an audit of a file is to end, and what it is to write: a text in quotes.
 #[derive(Clone, Copy)]
-pub(crate) struct Stored<'a> {
-    pub(crate) file: &'a [u8],
-    pub(crate) fails: &'a [u64],
+pub struct Ending<'a> {
+    /// The status.
+    pub status: u8,
+    /// What is written, in quotes.
+    pub quoted: &'a str,
 }
 
-/// With which status an audit is to end, and what it is to write.
-#[derive(Clone, Copy)]
-pub(crate) struct Ending<'a> {
-    pub(crate) status: u8,
-    pub(crate) text: &'a [u8],
+/// The file was changed, unless a disk reads as it was.
+fn find_changed(file: &[u8], disk: &MemDisk) -> Result<Option<Found>, AllocError> {
+    Ok(if file_of(disk)?.as_slice() == file {
+        None
+    } else {
+        Some(Found::Changed)
+    })
 }
 
-/// What the audit of a file comes to, where it doesn't end so, or where the file was changed.
-pub(crate) fn audit_file<R: Threads + Wait + Sync>(
-    threads: &R,
-    alloc: Global,
-    stored: Stored<'_>,
-    at: Option<&str>,
-    wanted: Ending<'_>,
-) -> Result<Option<Found>, AllocError> {
-    let mut disk = MemDisk::new(alloc, stored.file, stored.fails)?;
-    let mut sink = MemSink::new(alloc, 16, &[])?;
-    let status = run(threads, alloc, &mut disk, at, &mut sink)?;
-    if status != wanted.status || sink.taken() != wanted.text {
-        return Ok(Some(Found::Ended(status, Text::from_slice(alloc, sink.taken())?)));
+impl Given {
+    /// What the audit of the commits tells, with the state after so many where that is asked for, if it isn't this text in quotes.
+    pub fn audit_list(
+        &self,
+        alloc: Global,
+        at: Option<&str>,
+        quoted: &str,
+    ) -> Result<Option<Found>, CaseError> {
+        let wanted = text_in(alloc, quoted)?;
+        let commits = copies_of(alloc, self.commits.as_slice())?;
+        audit_list(alloc, &commits, at, wanted.as_slice())
     }
-    if file_of(&disk)?.as_slice() != stored.file {
-        return Ok(Some(Found::Changed));
+
+    /// How many of the first commits aren't legal, if there are any such.
+    pub fn audit_prefixes(&self, alloc: Global) -> Result<Option<Found>, AllocError> {
+        audit_prefixes(alloc, self.commits.as_slice())
     }
-    Ok(None)
+
+    /// What the audit of the file came to, where it isn't what is wanted, or where the file was changed: this disk is left, and
+    /// this was written.
+    pub fn find_ended(
+        &self,
+        alloc: Global,
+        disk: &MemDisk,
+        status: u8,
+        sink: &MemSink,
+        wanted: Ending,
+    ) -> Result<Option<Found>, CaseError> {
+        let text = text_in(alloc, wanted.quoted)?;
+        if status != wanted.status || sink.taken() != text.as_slice() {
+            return Ok(Some(Found::Ended(status, Text::from_slice(alloc, sink.taken())?)));
+        }
+        Ok(find_changed(self.file.as_slice(), disk)?)
+    }
 }

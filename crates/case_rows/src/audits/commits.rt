@@ -4,7 +4,7 @@ use crate::quoted::{CaseError, LONGEST_QUOTED, text_in};
 use dtext::{next_part, read_address, read_outcome};
 use plain_data::{OrNoMemory, Text};
 use predictive_parsing::Cursor;
-use rdt_types::{DeltaMap, Kind, Outcome, WriteOp, add_delta, delta_of};
+use rdt_types::{Address, Delta, DeltaMap, Kind, Outcome, WriteOp, add_delta, delta_of};
 use std::alloc::{AllocError, Global};
 use txn_lang::{Commit, CommitList};
 
@@ -49,6 +49,23 @@ fn part_at(alloc: Global, kind: Kind, bytes: &[u8]) -> Result<WriteOp, CaseError
     }
 }
 
+/// What the write that a row has does, beside an address of this kind.
+fn delta_at(alloc: Global, kind: Kind, bytes: &[u8]) -> Result<Delta, CaseError> {
+    let part = part_at(alloc, kind, bytes)?;
+    Ok(delta_of(alloc, &part)?)
+}
+
+/// Adds what is done at an address to deltas.
+fn add_part(
+    alloc: Global,
+    deltas: &mut DeltaMap,
+    address: Address,
+    part: &[u8],
+) -> Result<(), CaseError> {
+    let delta = delta_at(alloc, address.kind, part)?;
+    Ok(add_delta(alloc, deltas, address, delta)?)
+}
+
 /// Adds a write to deltas: an address, and behind a space what is done there.
 pub(crate) fn add_write(
     alloc: Global,
@@ -62,10 +79,7 @@ pub(crate) fn add_write(
         return Err(CaseError::NoForm);
     };
     let address = read_address(alloc, address.as_bytes())?;
-    let part = part_at(alloc, address.kind, part.as_bytes())?;
-    let delta = delta_of(alloc, &part)?;
-    add_delta(alloc, deltas, address, delta)?;
-    Ok(())
+    add_part(alloc, deltas, address, part.as_bytes())
 }
 
 /// A copy of a commit.

@@ -1,14 +1,15 @@
 //! A case: a file, and what is done with it.
 
-use crate::files::acting::{Said, recovers, refused, served, unserved};
 use crate::files::difference::Difference;
-use crate::files::each::{Session, find_at_each};
-use crate::files::row::{Act, Row};
+use crate::files::lines::text_of;
+use crate::files::recovering::recovers;
+use crate::files::refusing::{Refused, make_refused};
+use crate::files::row::Row;
+use crate::files::session::Session;
+use crate::files::talk::Talk;
 use crate::quoted::{CaseError, text_in};
 use plain_data::Text;
 use std::alloc::{AllocError, Global};
-use std::sync::Wait;
-use std::thread::Threads;
 
 /// The first place at which bytes differ.
 fn first_that_differs(some: &[u8], others: &[u8]) -> Option<usize> {
@@ -32,15 +33,17 @@ fn add_to<T: Copy + Drop>(all: &mut Vec<T>, one: T) -> Result<(), AllocError> {
 
 /// A file, and what is to be done with it.
 #[derive(Drop)]
-pub(crate) struct Case<'a> {
-    pub(crate) name: &'a str,
-    pub(crate) file: Text,
+pub struct Case<'a> {
+    /// Its name.
+    pub name: &'a str,
+    /// The file as it is now.
+    pub file: Text,
     /// The bytes that it is to have.
     like: Text,
     /// The bodies of the commits that are to be kept.
     bodies: Vec<&'a str>,
     /// The calls of the disk that fail in the next session.
-    fails: Vec<u64>,
+    pub fails: Vec<u64>,
     /// What the session says, and is answered.
     lines: Vec<&'a str>,
     replies: Vec<&'a str>,
@@ -98,26 +101,8 @@ impl<'a> Case<'a> {
         Ok(())
     }
 
-    /// Does something, and gives how what comes of it differs.
-    pub(crate) fn act<R: Threads + Wait + Sync>(
-        &mut self,
-        threads: &R,
-        alloc: Global,
-        act: Act,
-    ) -> Result<Option<Difference>, AllocError> {
-        match act {
-            Act::Recovers(end) => recovers(alloc, &mut self.file, self.bodies.as_slice(), end),
-            Act::Refused(at) => refused(threads, alloc, self.file.as_slice(), at),
-            Act::Served(commits) => self.serve(threads, alloc, commits),
-            Act::Unserved(status) => self.fail(threads, alloc, status),
-            Act::Each { recovery, commit } => self.each(threads, alloc, recovery, commit),
-            Act::Holds => Ok(self.hold()),
-            Act::Long(length) => Ok(self.long(length)),
-        }
-    }
-
     /// Looks whether the file has so many bytes.
-    fn long(&self, length: usize) -> Option<Difference> {
+    pub fn long(&self, length: usize) -> Option<Difference> {
         if self.file.len() == length {
             None
         } else {
@@ -126,69 +111,41 @@ impl<'a> Case<'a> {
     }
 
     /// Looks whether the file has the bytes that it is to have.
-    fn hold(&mut self) -> Option<Difference> {
+    pub fn hold(&mut self) -> Option<Difference> {
         let place = first_that_differs(self.file.as_slice(), self.like.as_slice());
         self.like.truncate(0);
         place.map(Difference::Byte)
     }
 
-    /// Serves the session.
-    fn serve<R: Threads + Wait + Sync>(
-        &mut self,
-        threads: &R,
-        alloc: Global,
-        commits: usize,
-    ) -> Result<Option<Difference>, AllocError> {
-        let said = Said {
-            lines: self.lines.as_slice(),
-            replies: self.replies.as_slice(),
-            commits,
-        };
-        let found = served(threads, alloc, &mut self.file, self.fails.as_slice(), said)?;
-        self.clear();
-        Ok(found)
+    /// What the session says, and what has to come of it where there are so many commits then.
+    pub fn talk(&self, alloc: Global, commits: usize) -> Result<Talk, AllocError> {
+        let replies = text_of(alloc, self.replies.as_slice())?;
+        Talk::answered(alloc, self.lines.as_slice(), replies, commits)
     }
 
-    /// Serves where nobody is served.
-    fn fail<R: Threads + Wait + Sync>(
-        &mut self,
-        threads: &R,
-        alloc: Global,
-        status: u8,
-    ) -> Result<Option<Difference>, AllocError> {
-        let found = unserved(
-            threads,
-            alloc,
-            &mut self.file,
-            self.fails.as_slice(),
-            status,
-        )?;
-        self.clear();
-        Ok(found)
-    }
-
-    /// Serves the session with a crash, and with a fault, at each call.
-    fn each<R: Threads + Wait + Sync>(
-        &mut self,
-        threads: &R,
-        alloc: Global,
-        recovery: u64,
-        commit: u64,
-    ) -> Result<Option<Difference>, AllocError> {
-        let session = Session {
+    /// The session, of which so many calls recover the file, and so many keep a commit.
+    pub fn session(&self, recovery: u64, commit: u64) -> Session<'_> {
+        Session {
             file: self.file.as_slice(),
             lines: self.lines.as_slice(),
             replies: self.replies.as_slice(),
             recovery,
             commit,
-        };
-        let found = find_at_each(threads, alloc, session)?;
-        self.clear();
-        Ok(found)
+        }
+    }
+
+    /// Looks whether the file is recovered to the commits that are to be kept, which end there.
+    pub fn recover(&mut self, alloc: Global, end: u64) -> Result<Option<Difference>, AllocError> {
+        recovers(alloc, &mut self.file, self.bodies.as_slice(), end)
+    }
+
+    /// Looks whether the file is no journal from there on, to a recovery and to who only reads.
+    pub fn refuse(&self, alloc: Global, at: u64) -> Result<Refused, AllocError> {
+        make_refused(alloc, self.file.as_slice(), at)
     }
 
     /// The session is over.
-    fn clear(&mut self) {
+    pub fn clear(&mut self) {
         self.fails.clear();
         self.lines.clear();
         self.replies.clear();

@@ -33,7 +33,7 @@ pub(crate) enum Row<'a> {
 
 /// What is done with the file, and what has to come of it.
 #[derive(Clone, Copy)]
-pub(crate) enum Act {
+pub enum Act {
     /// It is recovered to the commits, which end there.
     Recovers(u64),
     /// It is no journal from there on.

@@ -4,7 +4,7 @@ use std::fmt;
 
 /// How what came differs from what was wanted.
 #[derive(Clone, Copy)]
-pub(crate) enum Difference {
+pub enum Difference {
     /// What recovery made of the file.
     Found(Found),
     /// A second recovery finds something else, or changes the file.
@@ -35,14 +35,16 @@ pub(crate) enum Difference {
 
 /// What recovery makes of a file.
 #[derive(Clone, Copy, Debug, PartialEq, Eq)]
-pub(crate) enum Found {
+pub enum Found {
     /// The commits that are wanted, which end there.
     Journal(u64),
     /// Other commits.
     Others,
     /// From this byte on it is no journal.
     NotJournal(u64),
+    /// The disk failed.
     DiskFault,
+    /// There was no memory.
     NoMemory,
 }
 

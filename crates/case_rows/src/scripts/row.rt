@@ -3,6 +3,7 @@
 /// A text as a row spells it, and how often it stands.
 #[derive(Clone, Copy)]
 pub(crate) struct Repeated<'a> {
+    /// How often.
     pub(crate) count: u32,
     /// The text in quotes, as Diamond spells texts.
     pub(crate) quoted: &'a str,
@@ -11,8 +12,11 @@ pub(crate) struct Repeated<'a> {
 /// The settings of a store, as the command's words say them.
 #[derive(Clone, Copy)]
 pub(crate) struct Spelled<'a> {
+    /// How many shards.
     pub(crate) shards: &'a str,
+    /// How many versions a shard keeps.
     pub(crate) window: &'a str,
+    /// How many commits the journal may have.
     pub(crate) limit: &'a str,
 }
 

@@ -1,18 +1,14 @@
-//! A run of a case, and how what came of it differs from what the case says.
-
-ghost use Rattle.std.specs.Prelude.{◌<◌};
+//! How what came of a script differs from what its case says.
 
 use crate::scripts::case::Case;
-use diamond_cli::diamond;
-use dio_core::{MemSink, MemSource, NEWLINE, NoDisk, NoListener};
+use dio_core::{MemSink, NEWLINE};
 use std::alloc::{AllocError, Global};
 use std::fmt;
-use std::sync::Wait;
-use std::thread::Threads;
 
 /// How what came differs from what was wanted.
 #[derive(Drop)]
-pub(crate) enum Difference {
+pub enum Difference {
+    /// The status.
     Status { wanted: u8, came: u8 },
     /// The first line of the replies that differs.
     Reply { wanted: String, came: String },
@@ -34,41 +30,8 @@ impl fmt::Display for Difference {
     }
 }
 
-/// Runs a script, which is read and answered in pieces of this size. It gives the status, and the sink with the replies.
-pub(crate) fn run<R: Threads + Wait + Sync>(
-    threads: &R,
-    alloc: Global,
-    case: &Case,
-    piece: usize,
-) -> Result<(u8, MemSink), AllocError>
-    requires { 0 < piece }
-{
-    let settings = case.settings;
-    let words = [
-        "run",
-        "--shards",
-        settings.shards,
-        "--window",
-        settings.window,
-        "--limit",
-        settings.limit,
-    ];
-    let mut source = MemSource::new(alloc, case.script.as_slice(), piece, &[])?;
-    let mut sink = MemSink::new(alloc, piece, &[])?;
-    let status = diamond(
-        threads,
-        alloc,
-        &words,
-        &mut source,
-        &mut sink,
-        &mut NoDisk::new(),
-        &mut NoListener::new(),
-    );
-    Ok((status, sink))
-}
-
-/// How what came differs from what the case says, if it does.
-pub(crate) fn find_difference(
+/// How what came differs from what the case says, if it does: the status, and the sink with the replies.
+pub fn find_difference(
     alloc: Global,
     case: &Case,
     status: u8,
