@@ -2,6 +2,7 @@
 
 ghost use Rattle.std.specs.Prelude.{◌≡◌, ◌<◌};
 
+use alert_net::AlertNet;
 use diamond_cli::{LISTENER_FAULT, diamond};
 use dio_core::{
     FaultPlan, Listener, MemLink, MemLinks, MemListener, MemSink, MemSource, NoDisk, NoListener,
@@ -253,7 +254,7 @@ static LOOPBACK: Row = Row {
 
 #[test]
 fn a_session_over_the_loopback_is_served(rt: HostRuntime) {
-    let mut listener = TcpListening::bind(&rt, &rt, "127.0.0.1:0");
+    let mut listener = TcpListening::bind(&AlertNet::over(&rt), &rt, "127.0.0.1:0");
     let client = client_of(&rt, listener.address());
     // Where the client didn't come, no accept would return.
     assert!(rt; client.is_ok());

@@ -7,6 +7,7 @@ ghost use Rattle.dio_core.specs.Disks.{NothingPending};
 
 mod read_file;
 
+use alert_net::AlertNet;
 use cli_words::{Plan, Question, VERSION, WordsError, asked, help_text, read_words};
 use commit_file::RecoverError;
 use diamond_cli::{
@@ -105,7 +106,7 @@ fn command_counted<R: Threads + Wait + Sync, D: Disk + Send>(
 {
     let Counted { address, counts } = counted;
     let shared = Arc::try_clone(&counts)?;
-    let tcp = TcpListening::bind(rt, rt, address);
+    let tcp = TcpListening::bind(&AlertNet::over(rt), rt, address);
     say_address(rt, address, tcp.address());
     command(
         rt,
@@ -166,7 +167,7 @@ fn command_at<R: Threads + Wait + Sync, D: Disk + Send>(
     if rt.stderr().is_terminal() && !place.wire {
         return command_told(rt, threads, words, disk, place.address);
     }
-    let tcp = TcpListening::bind(rt, rt, place.address);
+    let tcp = TcpListening::bind(&AlertNet::over(rt), rt, place.address);
     say_address(rt, place.address, tcp.address());
     command(rt, threads, words, disk, &mut BufferedListening::new(tcp))
 }
