@@ -87,6 +87,20 @@ fn say_address(rt: &HostRuntime, address: &str, bound: Option<SocketAddr>) {
     };
 }
 
+/// Runs the command over the links of a listener, and reads ahead of each of them.
+fn command_over<R: Threads + Wait + Sync, D: Disk + Send, N: Listener + Drop>(
+    rt: &HostRuntime,
+    threads: &R,
+    words: &[&str],
+    disk: &mut D,
+    listener: N,
+) -> Result<u8, AllocError>
+    requires { NothingPending (D.state disk.old) }
+{
+    let mut listener = BufferedListening::new(listener);
+    command(rt, threads, words, disk, &mut listener)
+}
+
 /// An address at which links are counted, and the counts.
 #[derive(Drop)]
 struct Counted<'a> {
@@ -108,12 +122,13 @@ fn command_counted<R: Threads + Wait + Sync, D: Disk + Send>(
     let shared = Arc::try_clone(&counts)?;
     let tcp = TcpListening::bind(&AlertNet::over(rt), rt, address);
     say_address(rt, address, tcp.address());
-    command(
+    let links = CountedListening::new(tcp, counts);
+    command_over(
         rt,
         threads,
         words,
         &mut CountedDisk::new(disk, shared),
-        &mut BufferedListening::new(CountedListening::new(tcp, counts)),
+        links,
     )
 }
 
@@ -169,7 +184,7 @@ fn command_at<R: Threads + Wait + Sync, D: Disk + Send>(
     }
     let tcp = TcpListening::bind(&AlertNet::over(rt), rt, place.address);
     say_address(rt, place.address, tcp.address());
-    command(rt, threads, words, disk, &mut BufferedListening::new(tcp))
+    command_over(rt, threads, words, disk, tcp)
 }
 
 /// From which byte on the file of a disk is no journal. It is read once more, since a status has no room for that.
