@@ -6,7 +6,7 @@ mod commits;
 mod reading;
 mod row;
 
-pub use auditing::{Ending, Found};
+pub use auditing::{Ended, Ending, Found};
 pub use case::{Case, Given};
 pub use reading::Reading;
 pub use row::Act;

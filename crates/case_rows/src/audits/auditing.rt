@@ -5,7 +5,6 @@ use crate::audits::commits::copies_of;
 use crate::quoted::{CaseError, text_in};
 use audit_core::{Verdict, audit, report};
 use commit_file::{MemDisk, Torn};
-use dio_core::MemSink;
 use plain_data::Text;
 use std::alloc::{AllocError, Global};
 use std::fmt;
@@ -99,6 +98,15 @@ pub struct Ending<'a> {
     pub quoted: &'a str,
 }
 
+/// How an audit of a file ended.
+#[derive(Clone, Copy)]
+pub struct Ended<'a> {
+    /// Its status.
+    pub status: u8,
+    /// What was written.
+    pub written: &'a [u8],
+}
+
 /// The file was changed, unless a disk reads as it was.
 fn find_changed(file: &[u8], disk: &MemDisk) -> Result<Option<Found>, AllocError> {
     Ok(if file_of(disk)?.as_slice() == file {
@@ -126,19 +134,18 @@ impl Given {
         audit_prefixes(alloc, self.commits.as_slice())
     }
 
-    /// What the audit of the file came to, where it isn't what is wanted, or where the file was changed: this disk is left, and
-    /// this was written.
+    /// What the audit of the file came to, where it isn't what is wanted, or where the file was changed: this disk is left.
     pub fn find_ended(
         &self,
         alloc: Global,
         disk: &MemDisk,
-        status: u8,
-        sink: &MemSink,
+        ended: Ended,
         wanted: Ending,
     ) -> Result<Option<Found>, CaseError> {
+        let Ended { status, written } = ended;
         let text = text_in(alloc, wanted.quoted)?;
-        if status != wanted.status || sink.taken() != text.as_slice() {
-            return Ok(Some(Found::Ended(status, Text::from_slice(alloc, sink.taken())?)));
+        if status != wanted.status || written != text.as_slice() {
+            return Ok(Some(Found::Ended(status, Text::from_slice(alloc, written)?)));
         }
         Ok(find_changed(self.file.as_slice(), disk)?)
     }

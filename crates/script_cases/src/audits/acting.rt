@@ -4,7 +4,7 @@ ghost use Rattle.std.specs.Prelude.{Some};
 ghost use Rattle.dio_core.specs.Disks.{NothingPending};
 
 use case_rows::CaseError;
-use case_rows::audits::{Act, Ending, Found, Given};
+use case_rows::audits::{Act, Ended, Ending, Found, Given};
 use commit_file::MemDisk;
 use diamond_cli::diamond;
 use dio_core::{MemSink, MemSource, NoListener};
@@ -56,22 +56,6 @@ fn audit<R: Threads + Wait + Sync>(
     }
 }
 
-/// What the audit of a disk with the file comes to, where it doesn't end so, or where the file was changed.
-fn audit_disk<R: Threads + Wait + Sync>(
-    threads: &R,
-    alloc: Global,
-    given: &Given,
-    disk: &mut MemDisk,
-    at: Option<&str>,
-    wanted: Ending<'_>,
-) -> Result<Option<Found>, CaseError>
-    requires { NothingPending (Some disk.old.present) }
-{
-    let mut sink = MemSink::new(alloc, 16, &[])?;
-    let status = audit(threads, alloc, disk, at, &mut sink)?;
-    given.find_ended(alloc, disk, status, &sink, wanted)
-}
-
 /// What the audit of the file comes to, where it doesn't end so, or where the file was changed.
 fn audit_file<R: Threads + Wait + Sync>(
     threads: &R,
@@ -81,7 +65,13 @@ fn audit_file<R: Threads + Wait + Sync>(
     wanted: Ending<'_>,
 ) -> Result<Option<Found>, CaseError> {
     let mut disk = MemDisk::new(alloc, given.file.as_slice(), given.fails.as_slice())?;
-    audit_disk(threads, alloc, given, &mut disk, at, wanted)
+    let mut sink = MemSink::new(alloc, 16, &[])?;
+    let status = audit(threads, alloc, &mut disk, at, &mut sink)?;
+    let ended = Ended {
+        status,
+        written: sink.taken(),
+    };
+    given.find_ended(alloc, &disk, ended, wanted)
 }
 
 /// Does something, and gives what came of it where that differs.
